@@ -1,0 +1,4 @@
+mod Bending
+mod Copying
+mod Giving
+pub mod Runs

@@ -1,0 +1,4 @@
+pub mod Forms
+pub mod Moves
+pub mod Places
+pub mod Whole

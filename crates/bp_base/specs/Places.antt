@@ -1,0 +1,23 @@
+-- Pieces of bytes, cut at a place: so many whole pieces, and so many bytes of the next one.
+use Rattle.std.specs.Prelude.{ℕ, zero, suc, List, [], ◌∷◌, ◌++◌, Vec, take, drop}
+use Rattle.std.specs.List.{flat_map}
+use Rattle.std.specs.declared.alloc.Global.{Global}
+
+abbrev pub Pieces : Type 0
+Pieces = List (Vec ℕ Global)
+
+-- all bytes of the pieces
+abbrev pub joined : Pieces → List ℕ
+joined pieces = flat_map (λ piece. piece.items) pieces
+
+-- the bytes before the place
+abbrev pub bytes_before : Pieces → ℕ → ℕ → List ℕ
+bytes_before [] whole at = []
+bytes_before (piece ∷ pieces) zero at = take at piece.items
+bytes_before (piece ∷ pieces) (suc whole) at = piece.items ++ bytes_before pieces whole at
+
+-- the bytes from the place on
+abbrev pub bytes_from : Pieces → ℕ → ℕ → List ℕ
+bytes_from [] whole at = []
+bytes_from (piece ∷ pieces) zero at = drop at piece.items ++ joined pieces
+bytes_from (piece ∷ pieces) (suc whole) at = bytes_from pieces whole at

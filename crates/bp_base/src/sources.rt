@@ -1,0 +1,114 @@
+// Sources in memory.
+ghost use Rattle.std.specs.Prelude.{◌≡◌, [], ℕ, false, Some};
+ghost use Rattle.bp_base.specs.Places.{joined, bytes_before, bytes_from};
+
+use crate::calls::Calls;
+use crate::pieces::Pieces;
+use crate::{Patience, ReadGot, Source};
+use std::alloc::Global;
+
+/// A source in memory, some of whose reads fail.
+#[derive(Drop)]
+pub struct MemSource {
+    pieces: Pieces,
+    ended: bool,
+    calls: Calls,
+}
+
+impl MemSource {
+    ghost use Rattle.bp_base.specs.Forms.{source_calls};
+
+    /// A source that gives at most the rest of one piece per read, and skips empty pieces. Its reads are numbered
+    /// from 0, and those in `fails` fail.
+    pub fn new(_alloc: Global, pieces: Vec<Vec<u8>>, fails: Vec<u64>) -> Self
+        ensures given { ⟦<MemSource as Source>⟧.given result ≡ Some [] }
+        ensures left { ⟦<MemSource as Source>⟧.left result ≡ Some (joined pieces.items) }
+        ensures ended { ⟦<MemSource as Source>⟧.ended result ≡ false }
+        ensures faults { ⟦<MemSource as Source>⟧.faults result ≡ 0 }
+        ensures calls { source_calls result ≡ (fails.items, 0) }
+    {
+        MemSource {
+            pieces: Pieces::new(pieces),
+            ended: false,
+            calls: Calls::new(fails),
+        }
+    }
+
+    /// Whether a read has answered `End`.
+    pub fn is_ended(&self) -> bool
+        ensures { ⟦<MemSource as Source>⟧.ended self.now ≡ result }
+    {
+        self.ended
+    }
+
+    /// How many reads have failed.
+    pub fn faults(&self) -> u64
+        ensures { ⟦<MemSource as Source>⟧.faults self.now ≡ result }
+    {
+        self.calls.faults
+    }
+}
+
+impl Source for MemSource {
+    ghost faults = { λ s. s.calls.faults };
+
+    ghost given = { λ s. Some (bytes_before s.pieces.pieces.items s.pieces.whole s.pieces.at) };
+
+    ghost left = { λ s. Some (bytes_from s.pieces.pieces.items s.pieces.whole s.pieces.at) };
+
+    ghost ended = { λ s. s.ended };
+
+    fn read(&mut self, into: &mut [u8], _patience: Patience) -> ReadGot {
+        if self.calls.next_fails() {
+            return ReadGot::Failed;
+        }
+        let got = self.pieces.give(into);
+        self.ended |= got == ReadGot::End;
+        got
+    }
+}
+
+/// A source in memory that never fails.
+#[derive(Drop)]
+pub struct SteadySource {
+    pieces: Pieces,
+    ended: bool,
+}
+
+impl SteadySource {
+    /// A source that gives at most the rest of one piece per read, and skips empty pieces.
+    pub fn new(_alloc: Global, pieces: Vec<Vec<u8>>) -> Self
+        ensures given { ⟦<SteadySource as Source>⟧.given result ≡ Some [] }
+        ensures left { ⟦<SteadySource as Source>⟧.left result ≡ Some (joined pieces.items) }
+        ensures ended { ⟦<SteadySource as Source>⟧.ended result ≡ false }
+        ensures faults { ⟦<SteadySource as Source>⟧.faults result ≡ 0 }
+    {
+        SteadySource {
+            pieces: Pieces::new(pieces),
+            ended: false,
+        }
+    }
+
+    /// Whether a read has answered `End`.
+    pub fn is_ended(&self) -> bool
+        ensures { ⟦<SteadySource as Source>⟧.ended self.now ≡ result }
+    {
+        self.ended
+    }
+}
+
+impl Source for SteadySource {
+    ghost faults = { λ _. 0 };
+
+    ghost given = { λ s. Some (bytes_before s.pieces.pieces.items s.pieces.whole s.pieces.at) };
+
+    ghost left = { λ s. Some (bytes_from s.pieces.pieces.items s.pieces.whole s.pieces.at) };
+
+    ghost ended = { λ s. s.ended };
+
+    fn read(&mut self, into: &mut [u8], _patience: Patience) -> ReadGot {
+        let got = self.pieces.give(into);
+        self.ended |= got == ReadGot::End;
+        got
+    }
+}

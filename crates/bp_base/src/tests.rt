@@ -1,0 +1,205 @@
+use crate::*;
+use std::alloc::{AllocError, Global};
+use std::test::Fail;
+
+fn pieces(alloc: Global, texts: &[&[u8]]) -> Result<Vec<Vec<u8>>, AllocError> {
+    let mut pieces = Vec::new(alloc);
+    for text in texts {
+        pieces.push(text.to_vec(alloc)?)?;
+    }
+    Ok(pieces)
+}
+
+// What is put into an empty wire, and what two gets of two bytes give.
+fn put_and_get<W: Wire>(wire: &mut W, piece: &[u8]) -> (PutDone, Got, Got, [u8; 4]) {
+    let mut into = [b'.'; 4];
+    let done = wire.put(piece);
+    let first = wire.get(&mut into[..2]);
+    let second = wire.get(&mut into[2..]);
+    (done, first, second, into)
+}
+
+#[test]
+fn a_source_gives_its_pieces_in_turn_and_skips_empty_ones(rt: HostRuntime) -> Result<(), Fail> {
+    let alloc = rt.alloc();
+    let texts = pieces(alloc, &[b"ab", b"", b"cde"])?;
+    let mut source = MemSource::new(alloc, texts, Vec::new(alloc));
+    let mut into = [b'.'; 4];
+    assert_eq!(rt; source.read(&mut into, Patience::Poll), ReadGot::Bytes(2));
+    assert_eq!(rt; into, *b"ab..");
+    assert_eq!(rt;
+        source.read(&mut into[..2], Patience::Millis(5)),
+        ReadGot::Bytes(2)
+    );
+    assert_eq!(rt; into, *b"cd..");
+    assert_eq!(rt;
+        source.read(&mut into, Patience::Forever),
+        ReadGot::Bytes(1)
+    );
+    assert_eq!(rt; into, *b"ed..");
+    assert!(rt; !source.is_ended());
+    assert_eq!(rt; source.read(&mut into, Patience::Poll), ReadGot::End);
+    assert_eq!(rt; into, *b"ed..");
+    assert!(rt; source.is_ended());
+    Ok(())
+}
+
+#[test]
+fn a_failed_read_takes_nothing_and_is_counted(rt: HostRuntime) -> Result<(), Fail> {
+    let alloc = rt.alloc();
+    let fails = [1].to_vec(alloc)?;
+    let mut source = MemSource::new(alloc, pieces(alloc, &[b"ab", b"c"])?, fails);
+    let mut into = [b'.'; 4];
+    assert_eq!(rt; source.read(&mut into, Patience::Poll), ReadGot::Bytes(2));
+    assert_eq!(rt; source.faults(), 0);
+    assert_eq!(rt; source.read(&mut into, Patience::Poll), ReadGot::Failed);
+    assert_eq!(rt; source.faults(), 1);
+    assert_eq!(rt; source.read(&mut into, Patience::Poll), ReadGot::Bytes(1));
+    assert_eq!(rt; into, *b"cb..");
+    assert_eq!(rt; source.faults(), 1);
+    Ok(())
+}
+
+#[test]
+fn a_sink_takes_what_fits_and_then_fails(rt: HostRuntime) -> Result<(), Fail> {
+    let alloc = rt.alloc();
+    let mut sink = MemSink::new(alloc, 3, Vec::new(alloc))?;
+    assert_eq!(rt; sink.write(b"ab"), Wrote::Bytes(2));
+    assert_eq!(rt; sink.write(b"cd"), Wrote::Bytes(1));
+    assert_eq!(rt; sink.faults(), 0);
+    assert_eq!(rt; sink.write(b"d"), Wrote::Failed);
+    assert_eq!(rt; sink.faults(), 1);
+    assert_eq!(rt; sink.bytes(), b"abc".as_slice());
+    Ok(())
+}
+
+#[test]
+fn writes_and_flushes_are_numbered_together(rt: HostRuntime) -> Result<(), Fail> {
+    let alloc = rt.alloc();
+    let mut sink = MemSink::new(alloc, 9, [1, 2].to_vec(alloc)?)?;
+    assert_eq!(rt; sink.write(b"a"), Wrote::Bytes(1));
+    assert_eq!(rt; Sink::finish(&mut &mut sink), Finished::Failed);
+    assert_eq!(rt; sink.write(b"b"), Wrote::Failed);
+    assert_eq!(rt; sink.finish(), Finished::Done);
+    assert_eq!(rt; sink.faults(), 2);
+    assert_eq!(rt; sink.bytes(), b"a".as_slice());
+    Ok(())
+}
+
+#[test]
+fn a_steady_sink_takes_every_piece_whole(rt: HostRuntime) {
+    let mut sink = SteadySink::new();
+    assert_eq!(rt; sink.write(b"abc"), Wrote::Bytes(3));
+    assert_eq!(rt; sink.finish(), Finished::Done);
+}
+
+#[test]
+fn honest_wires_give_what_was_put(rt: HostRuntime) {
+    let alloc = rt.alloc();
+    let want = (PutDone::Done, Got::Exact, Got::Less(1), *b"abc.");
+    let mut wire = MemWire::new(alloc, Vec::new(alloc));
+    assert_eq!(rt; put_and_get(&mut wire, b"abc"), want);
+    assert_eq!(rt; wire.sent(), b"abc".as_slice());
+    assert_eq!(rt; wire.given(), b"abc".as_slice());
+    assert_eq!(rt; wire.faults(), 0);
+
+    let mut steady = SteadyWire::new(alloc);
+    assert_eq!(rt;
+        put_and_get(&mut steady, b"abcd"),
+        (PutDone::Done, Got::Exact, Got::Exact, *b"abcd")
+    );
+    assert_eq!(rt; steady.put(b"ef"), PutDone::Done);
+    assert_eq!(rt; steady.sent(), b"abcdef".as_slice());
+    assert_eq!(rt; steady.given(), b"abcd".as_slice());
+}
+
+#[test]
+fn puts_and_gets_are_numbered_together(rt: HostRuntime) -> Result<(), Fail> {
+    let alloc = rt.alloc();
+    let mut wire = MemWire::new(alloc, [1, 3].to_vec(alloc)?);
+    let mut into = [b'.'; 2];
+    assert_eq!(rt; wire.put(b"ab"), PutDone::Done);
+    assert_eq!(rt; wire.get(&mut into), Got::Failed);
+    assert_eq!(rt; wire.get(&mut into[..1]), Got::Exact);
+    assert_eq!(rt; wire.put(b"c"), PutDone::Failed);
+    assert_eq!(rt; wire.get(&mut into), Got::Less(1));
+    assert_eq!(rt; into, *b"b.");
+    assert_eq!(rt; wire.sent(), b"ab".as_slice());
+    assert_eq!(rt; wire.faults(), 2);
+    Ok(())
+}
+
+#[test]
+fn a_bent_wire_changes_one_byte(rt: HostRuntime) {
+    let alloc = rt.alloc();
+    let mut wire = BentWire::new(alloc, 2, b'j');
+    assert_eq!(rt;
+        put_and_get(&mut wire, b"abcd"),
+        (PutDone::Done, Got::Exact, Got::Exact, *b"abjd")
+    );
+    assert_eq!(rt; wire.sent(), b"abcd".as_slice());
+    let mut straight = BentWire::new(alloc, 1000, b'j');
+    assert_eq!(rt;
+        put_and_get(&mut straight, b"abc"),
+        (PutDone::Done, Got::Exact, Got::Less(1), *b"abc.")
+    );
+}
+
+#[test]
+fn a_source_is_read_to_its_end(rt: HostRuntime) -> Result<(), Fail> {
+    let alloc = rt.alloc();
+    let mut source = SteadySource::new(alloc, pieces(alloc, &[b"ab", b"", b"cde"])?);
+    let all = read_all(alloc, &mut source, 5)?;
+    assert_eq!(rt; all.as_slice(), b"abcde".as_slice());
+    assert!(rt; source.is_ended());
+    let mut none = SteadySource::new(alloc, Vec::new(alloc));
+    assert_eq!(rt; read_all(alloc, &mut &mut none, 0)?.len(), 0);
+    Ok(())
+}
+
+#[test]
+fn a_byte_too_many_or_a_failed_read_is_refused(rt: HostRuntime) -> Result<(), Fail> {
+    let alloc = rt.alloc();
+    let mut long = SteadySource::new(alloc, pieces(alloc, &[b"ab", b"cde"])?);
+    assert_eq!(rt;
+        read_all(alloc, &mut long, 4).err(),
+        Some(ReadAllError::TooLong { max: 4 })
+    );
+    let texts = pieces(alloc, &[b"ab", b"cde"])?;
+    let mut broken = MemSource::new(alloc, texts, [1].to_vec(alloc)?);
+    assert_eq!(rt;
+        read_all(alloc, &mut broken, 4).err(),
+        Some(ReadAllError::ReadFault)
+    );
+    assert_eq!(rt; broken.faults(), 1);
+    Ok(())
+}
+
+#[test]
+fn a_piece_is_written_whole_or_up_to_the_fault(rt: HostRuntime) -> Result<(), Fail> {
+    let alloc = rt.alloc();
+    let mut sink = MemSink::new(alloc, 4, Vec::new(alloc))?;
+    assert_eq!(rt; write_all(&mut sink, b"abc"), Ok(()));
+    assert_eq!(rt;
+        write_all(&mut &mut sink, b"de"),
+        Err(WriteFault { written: 1 })
+    );
+    assert_eq!(rt; sink.bytes(), b"abcd".as_slice());
+    Ok(())
+}
+
+#[test]
+fn readers_and_writers_of_std_are_sources_and_sinks(rt: HostRuntime) -> Result<(), Fail> {
+    let alloc = rt.alloc();
+    let mut source = StreamSource::new(b"abc".as_slice());
+    assert_eq!(rt;
+        read_all(alloc, &mut source, 3)?.as_slice(),
+        b"abc".as_slice()
+    );
+    let mut bytes = Vec::new(alloc);
+    let mut sink = StreamSink::new(&mut bytes);
+    assert_eq!(rt; write_all(&mut sink, b"abc"), Ok(()));
+    assert_eq!(rt; sink.finish(), Finished::Done);
+    assert_eq!(rt; bytes.as_slice(), b"abc".as_slice());
+    Ok(())
+}
