@@ -1,0 +1,10 @@
+pub mod Shortest
+pub mod Bytes
+pub mod FirstByte
+pub mod NatRight
+pub mod SignedBytes
+pub mod IntRight
+pub mod Told
+pub mod Payloads
+pub mod Arms
+pub mod FromAnswers

@@ -1,0 +1,31 @@
+-- The shortest form is a form, and no form of the number is shorter.
+use Rattle.std.proofs.Common.{◌≡◌, refl, ℕ, ℤ, pos, negsuc, zero, suc, ◌/◌, ◌^◌, ◌<◌, ◌≤◌, List, length, arith, rules}
+use Rattle.bp_num.specs.Forms.{little_endian, IsNat, written_nat, extent, limit_of, IsInt, written_int}
+use Rattle.bp_num.specs.declared.number.IntKind.{IntKind}
+use Rattle.bp_num.specs.declared.number.IntKind.TheVariants.{Int63, Int32, Int64}
+
+pub length-little_endian : (k n : ℕ) → length (little_endian k n) ≡ k
+length-little_endian zero n = refl
+length-little_endian (suc k) n = omega (arith, length-little_endian k (n / 256))
+
+-- ---- natural numbers
+
+pub nat_form : (m n : ℕ) → n ≤ m → n < 2 ^ 64 → IsNat m n (written_nat n)
+nat_form m n le fits = search rules
+
+pub nat_shortest : (m n : ℕ) (s : List ℕ) → IsNat m n s → length (written_nat n) ≤ length s
+nat_shortest m n s form = search rules
+
+-- ---- integers
+
+pub int_form : (kind : IntKind) (n : ℤ) → extent n < limit_of kind → IsInt kind n (written_int n)
+int_form Int63 (pos n) fits = search rules
+int_form Int63 (negsuc n) fits = search rules
+int_form Int32 (pos n) fits = search rules
+int_form Int32 (negsuc n) fits = search rules
+int_form Int64 (pos n) fits = search rules
+int_form Int64 (negsuc n) fits = search rules
+
+pub int_shortest : (kind : IntKind) (n : ℤ) (s : List ℕ) → IsInt kind n s → length (written_int n) ≤ length s
+int_shortest kind (pos n) s form = search rules
+int_shortest kind (negsuc n) s form = search rules
