@@ -1,0 +1,14 @@
+ghost use Rattle.std.specs.Prelude.{◌≡◌};
+ghost use Rattle.bp_value.specs.Tags.{tag_of};
+
+/// The tag of a polymorphic variant's case: OCaml's hash of the name, as the number `2h + 1` whose four
+/// little-endian bytes stand before the case's argument (bin_prot, "Polymorphic variants").
+pub fn poly_tag(name: &[u8]) -> i32
+    ensures { result ≡ tag_of name.now }
+{
+    let mut hash: u32 = 0;
+    for byte in name {
+        hash = hash.wrapping_mul(223).wrapping_add(u32::from(*byte));
+    }
+    hash.wrapping_mul(2).wrapping_add(1).cast_signed()
+}

@@ -1,0 +1,196 @@
+ghost use Rattle.std.specs.Prelude.{◌<◌};
+
+use super::*;
+use std::alloc::Global;
+use std::test::Fail;
+
+fn blob(alloc: Global, text: &str) -> Result<Blob, OutOfMemory> {
+    Ok(Blob::from_vec(Vec::from_slice(alloc, text.as_bytes())?))
+}
+
+fn sum_of(alloc: Global, names: &[&str]) -> Result<Shape, OutOfMemory> {
+    let mut cases = Vec::with_capacity(alloc, names.len())?;
+    for name in names {
+        let name = blob(alloc, name)?;
+        let args = Listed::from_vec(Vec::new(alloc));
+        cases.push(Case { name, args })?;
+    }
+    Ok(Shape::Sum(Listed::from_vec(cases)))
+}
+
+fn poly_of(alloc: Global, names: &[&str]) -> Result<Shape, OutOfMemory> {
+    let mut cases = Vec::with_capacity(alloc, names.len())?;
+    for name in names {
+        let name = blob(alloc, name)?;
+        cases.push(PolyCase { name, arg: None })?;
+    }
+    Ok(Shape::Poly(Listed::from_vec(cases)))
+}
+
+/// A sum of so many cases without arguments, named `aa`, `ab` and so on.
+fn sum_with(alloc: Global, count: u16) -> Result<Shape, OutOfMemory>
+    requires { count < 400 }
+{
+    let mut cases = Vec::new(alloc);
+    for place in 0..count {
+        let letters = [b'a' + (place / 16) as u8, b'a' + (place % 16) as u8];
+        let name = Blob::from_vec(Vec::from_slice(alloc, &letters)?);
+        let args = Listed::from_vec(Vec::new(alloc));
+        cases.push(Case { name, args })?;
+    }
+    Ok(Shape::Sum(Listed::from_vec(cases)))
+}
+
+/// Options round a unit, so many nodes deep.
+fn options(alloc: Global, depth: u32) -> Result<Shape, OutOfMemory> {
+    let mut shape = Shape::Unit;
+    for _ in 1..depth {
+        shape = Shape::Opt(Boxed::new(alloc, shape)?);
+    }
+    Ok(shape)
+}
+
+/// Lists round an empty list, so many deep.
+fn lists(alloc: Global, depth: u32) -> Result<Sexp, OutOfMemory> {
+    let mut sexp = Sexp::List(Listed::from_vec(Vec::new(alloc)));
+    for _ in 1..depth {
+        sexp = Sexp::List(Listed::from_vec(vec![in alloc; sexp]?));
+    }
+    Ok(sexp)
+}
+
+fn fits_checked(shape: &Shape, value: &Value, max_len: u64) -> Result<bool, ShapeFault> {
+    shape.check()?;
+    Ok(fits(shape, value, max_len))
+}
+
+#[test]
+fn tags_are_those_of_ocaml(rt: HostRuntime) {
+    for (name, tag) in [
+        ("Ok", 35449),
+        ("Eof", 6912313),
+        ("Abort", 1548646177),
+        ("Query", -500173359),
+        ("Version", -1803149839),
+        ("azdwbie", -664647963),
+        ("c7diagq", -664647963),
+    ] {
+        assert_eq!(rt; poly_tag(name.as_bytes()), tag, "of {name}");
+    }
+}
+
+#[test]
+fn check_answers_the_first_fault(rt: HostRuntime) -> Result<(), Fail> {
+    let alloc = rt.alloc();
+    let same = ShapeFault::SameName {
+        first: 0,
+        second: 2,
+    };
+    assert_eq!(rt; sum_of(alloc, &["A", "B", "A"])?.check(), Err(same));
+    let clash = ShapeFault::TagClash {
+        first: 0,
+        second: 1,
+    };
+    assert_eq!(rt;
+        poly_of(alloc, &["azdwbie", "c7diagq"])?.check(),
+        Err(clash)
+    );
+    let pair = Shape::Tuple(Listed::from_vec(vec![in alloc; Shape::Int]?));
+    assert_eq!(rt; pair.check(), Err(ShapeFault::ShortTuple { parts: 1 }));
+    assert_eq!(rt;
+        sum_of(alloc, &["A", "_b'2", "2b"])?.check(),
+        Err(ShapeFault::BadName { place: 2 })
+    );
+    assert_eq!(rt; sum_of(alloc, &[])?.check(), Err(ShapeFault::EmptySum));
+    let empty = Shape::Fields(Listed::from_vec(Vec::new(alloc)));
+    assert_eq!(rt; empty.check(), Err(ShapeFault::EmptyFields));
+    Ok(())
+}
+
+#[test]
+fn check_counts_depth_and_members(rt: HostRuntime) -> Result<(), Fail> {
+    let alloc = rt.alloc();
+    assert_eq!(rt; options(alloc, 64)?.check(), Ok(()));
+    assert_eq!(rt;
+        options(alloc, 65)?.check(),
+        Err(ShapeFault::TooDeep { depth: 65 })
+    );
+    assert_eq!(rt; sum_with(alloc, 256)?.check(), Ok(()));
+    assert_eq!(rt;
+        sum_with(alloc, 257)?.check(),
+        Err(ShapeFault::TooMany { count: 257 })
+    );
+    Ok(())
+}
+
+#[test]
+fn fits_has_the_range_and_the_depth(rt: HostRuntime) -> Result<(), Fail> {
+    let alloc = rt.alloc();
+    assert_eq!(rt;
+        fits_checked(&Shape::Int32, &Value::Num(2147483648), 8),
+        Ok(false)
+    );
+    assert_eq!(rt;
+        fits_checked(&Shape::Int32, &Value::Num(2147483647), 8),
+        Ok(true)
+    );
+    assert_eq!(rt;
+        fits_checked(&Shape::Sexp, &Value::Sexp(lists(alloc, 128)?), 1),
+        Ok(true)
+    );
+    assert_eq!(rt;
+        fits_checked(&Shape::Sexp, &Value::Sexp(lists(alloc, 129)?), 1),
+        Ok(false)
+    );
+    assert_eq!(rt;
+        fits_checked(&Shape::Text, &Value::Text(blob(alloc, "abc")?), 2),
+        Ok(false)
+    );
+    Ok(())
+}
+
+#[test]
+fn copies_are_made_and_alike(rt: HostRuntime) -> Result<(), Fail> {
+    let alloc = rt.alloc();
+    let text = blob(alloc, "text")?;
+    assert_eq!(rt; text.copy(alloc)?.into_vec().as_slice(), b"text".as_slice());
+    let arg = Some(Boxed::from_box(Box::new(alloc, sum_of(alloc, &["A", "B"])?)?));
+    let name = blob(alloc, "Ok")?;
+    let shape = Shape::Poly(Listed::from_vec(vec![in alloc; PolyCase { name, arg }]?));
+    let copy = shape.copy(alloc)?;
+    assert_eq!(rt;
+        format!(in alloc; "{copy:?}")?,
+        format!(in alloc; "{shape:?}")?
+    );
+    let args = Listed::from_vec(vec![in alloc; Value::Text(text), Value::Sexp(lists(alloc, 2)?)]?);
+    let value = Value::Present(Boxed::new(alloc, Value::Case { place: 1, args })?);
+    let copy = value.copy(alloc)?;
+    assert_eq!(rt;
+        format!(in alloc; "{copy:?}")?,
+        format!(in alloc; "{value:?}")?
+    );
+    let sexp = lists(alloc, 3)?;
+    let copy = sexp.copy(alloc)?;
+    assert_eq!(rt;
+        format!(in alloc; "{copy:?}")?,
+        format!(in alloc; "{sexp:?}")?
+    );
+    Ok(())
+}
+
+#[test]
+fn owners_give_back_what_they_took(rt: HostRuntime) -> Result<(), Fail> {
+    let alloc = rt.alloc();
+    let text = blob(alloc, "ab")?;
+    assert_eq!(rt; (text.len(), text.as_slice()), (2, b"ab".as_slice()));
+    let listed = Listed::from_vec(vec![in alloc; 3u8, 4, 5]?);
+    assert_eq!(rt;
+        (listed.len(), listed.as_slice()),
+        (3, [3, 4, 5].as_slice())
+    );
+    assert_eq!(rt; listed.into_vec().len(), 3);
+    let boxed = Boxed::new(alloc, 7u8)?;
+    assert_eq!(rt; *boxed.get(), 7);
+    assert_eq!(rt; boxed.into_inner(), 7);
+    Ok(())
+}
