@@ -1,0 +1,4 @@
+pub mod Stream
+pub mod World
+pub mod Report
+pub mod Input
