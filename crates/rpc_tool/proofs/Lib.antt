@@ -1,0 +1,13 @@
+pub mod Agreeing
+pub mod Texts
+pub mod Same
+pub mod Standing
+pub mod Shows
+pub mod Replaying
+pub mod Answering
+pub mod Words
+pub mod Slices
+pub mod Refusals
+pub mod InputEvents
+pub mod InputLines
+pub mod InputTexts

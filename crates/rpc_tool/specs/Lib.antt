@@ -1,0 +1,7 @@
+pub mod Heads
+pub mod Kept
+pub mod Stands
+pub mod Showing
+pub mod Replayed
+pub mod Input
+pub mod Means

@@ -1,0 +1,20 @@
+//! The commands of the program `rpc`.
+#![tactic(auto)]
+
+mod carry;
+mod ends;
+mod failure;
+mod inbox;
+mod input;
+mod message;
+mod pair;
+mod replay;
+mod report;
+mod status;
+mod text;
+mod top;
+
+pub use top::run;
+
+#[cfg(test)]
+mod tests;

@@ -1,0 +1,270 @@
+// Both ends of a connection, and the steps of a schedule.
+ghost use Rattle.std.specs.Prelude.{Option, Some, None, Bool, true, false, [], ◌≡◌, ◌+◌, ◌-◌, ◌≤◌, ◌↔◌, ◌⊎◌, ◌&&◌, not, nat_eq, ℕ, List, length, OnOk, IfOk, IsErrOf, IsTrue};
+ghost use Rattle.std.specs.Str.{bytes_eq};
+ghost use Rattle.std.specs.List.{list_any};
+ghost use Rattle.std.specs.Io.KnownBytes.{Appends, Keeps};
+ghost use Rattle.bp_base.specs.Moves.{Rose};
+ghost use Rattle.rpc_world.specs.declared.schedule.Event.TheVariants as event;
+ghost use Rattle.rpc_world.specs.Stream.{query_lead, IsText};
+ghost use Rattle.rpc_world.specs.World.{World, first_world, refusal, effect, step, moved_of};
+ghost use Rattle.rpc_world.specs.Input.{IsName, IsEvent};
+ghost use Rattle.rpc_tool.specs.declared.failure.Failure.TheVariants as failure;
+
+use crate::carry::carry;
+use crate::ends::{Client, Server};
+use crate::failure::Failure;
+use crate::message::query_lead;
+use bp_base::Wire;
+use bp_value::Blob;
+use rpc_world::{Event, Refusal};
+use std::alloc::Global;
+
+/// Both ends of one connection, which have one procedure.
+#[derive(Drop)]
+pub struct Pair {
+    pub name: Blob,
+    pub version: u8,
+    pub client: Client,
+    pub server: Server,
+    ghost short: { length name ≤ 32 },
+    ghost awaits: { server.inbox.awaited ≡ Some (query_lead name version) },
+}
+
+impl Pair {
+    ghost use Rattle.rpc_tool.specs.Replayed.{AreFresh};
+    ghost use Rattle.rpc_tool.specs.Stands.{Stands, Tells, MayStep, LabelAfter, labels_of};
+
+    /// A pair whose headers were put.
+    pub fn open<W: Wire>(
+        alloc: Global,
+        name: Blob,
+        version: u8,
+        up: &mut W,
+        down: &mut W,
+    ) -> Result<Pair, Failure>
+        requires { length name ≤ 32 }
+        ensures up_counts { W.faults up.old ≤ W.faults up.new }
+        ensures down_counts { W.faults down.old ≤ W.faults down.new }
+        ensures up_honest { W.honest up.old ↔ W.honest up.new }
+        ensures down_honest { W.honest down.old ↔ W.honest down.new }
+        ensures fault { IsErrOf result failure.WireFault
+            → Rose (W.faults up.old) (W.faults up.new) ⊎ Rose (W.faults down.old) (W.faults down.new) }
+        ensures schema { IfOk result (λ pair. (pair.name ≡ name) × (pair.version ≡ version) × (pair.client.label ≡ None)) }
+
+        // Over fresh wires that tell their bytes.
+        ensures told { AreFresh (W.sent up.old) (W.given up.old) (W.sent down.old) (W.given down.old)
+            → IfOk result (λ pair. Tells pair (W.sent up.new) (W.given up.new) (W.sent down.new) (W.given down.new)
+            × Stands pair (first_world name version) (W.sent up.new) (W.given up.new) (W.sent down.new) (W.given down.new)) }
+    {
+        let client = Client::open(alloc, up)?;
+        let server = Server::open(alloc, name.as_slice(), version, down)?;
+        Ok(Pair {
+            name,
+            version,
+            client,
+            server,
+        })
+    }
+
+    /// Steps one event, and says why where it was refused.
+    pub fn step<W: Wire>(
+        &mut self,
+        alloc: Global,
+        event: &Event,
+        up: &mut W,
+        down: &mut W,
+    ) -> Result<Option<Refusal>, Failure>
+        requires event { IsEvent event.now }
+        requires once { MayStep self.old.client.label event.now }
+        ensures up_counts { W.faults up.old ≤ W.faults up.new }
+        ensures down_counts { W.faults down.old ≤ W.faults down.new }
+        ensures up_honest { W.honest up.old ↔ W.honest up.new }
+        ensures down_honest { W.honest down.old ↔ W.honest down.new }
+        ensures fault { IsErrOf result failure.WireFault
+            → Rose (W.faults up.old) (W.faults up.new) ⊎ Rose (W.faults down.old) (W.faults down.new) }
+        ensures schema { (self.new.name ≡ self.old.name) × (self.new.version ≡ self.old.version) }
+        ensures label { OnOk result (LabelAfter self.old.client.label event.now self.new.client.label) }
+
+        ensures told { Tells self.old (W.sent up.old) (W.given up.old) (W.sent down.old) (W.given down.old)
+            → OnOk result (Tells self.new (W.sent up.new) (W.given up.new) (W.sent down.new) (W.given down.new)) }
+        ensures world { (w : World) → W.honest up.old → W.honest down.old
+            → Stands self.old w (W.sent up.old) (W.given up.old) (W.sent down.old) (W.given down.old)
+            → IfOk result (λ answer. (answer ≡ refusal w event.now)
+            × Stands self.new (step w event.now) (W.sent up.new) (W.given up.new) (W.sent down.new) (W.given down.new)) }
+    {
+        match event {
+            Event::Ask {
+                label,
+                name,
+                version,
+                text,
+            } => self.ask(alloc, label, name, *version, text, up),
+            Event::Reply { label, text } => self.reply(alloc, label, text, down),
+            Event::Up { count, by } => {
+                self.move_up(alloc, *count, *by, up)?;
+                Ok(None)
+            }
+            Event::Down { count, by } => {
+                self.move_down(alloc, *count, *by, down)?;
+                Ok(None)
+            }
+        }
+    }
+
+    fn ask<W: Wire>(
+        &mut self,
+        alloc: Global,
+        label: &Blob,
+        name: &Blob,
+        version: u8,
+        text: &Blob,
+        up: &mut W,
+    ) -> Result<Option<Refusal>, Failure>
+        requires once { self.old.client.label ≡ None }
+        requires text { IsText text.now }
+        ensures counts { W.faults up.old ≤ W.faults up.new }
+        ensures honest { W.honest up.old ↔ W.honest up.new }
+        ensures fault { IsErrOf result failure.WireFault → Rose (W.faults up.old) (W.faults up.new) }
+        ensures schema { (self.new.name ≡ self.old.name) × (self.new.version ≡ self.old.version) }
+        ensures label { OnOk result ((self.new.client.label ≡ None) ⊎ (self.new.client.label ≡ Some label.now)) }
+        ensures told { (sent given : Option (List ℕ)) → Tells self.old (W.sent up.old) (W.given up.old) sent given
+            → OnOk result (Tells self.new (W.sent up.new) (W.given up.new) sent given) }
+        ensures world { (w : World) (sent given : Option (List ℕ)) → W.honest up.old → Stands self.old w (W.sent up.old) (W.given up.old) sent given
+            → IfOk result (λ answer. (answer ≡ refusal w (event.Ask label.now name.now version text.now)) × Stands self.new (step w (event.Ask label.now name.now version text.now)) (W.sent up.new) (W.given up.new) sent given) }
+    {
+        if !self.knows(name, version) {
+            return Ok(Some(Refusal::NoSuchRpc));
+        }
+        if !self.client.inbox.is_front() {
+            return Ok(Some(Refusal::Closed));
+        }
+        if !self.client.inbox.has_header() {
+            return Ok(Some(Refusal::NotOpen));
+        }
+        let lead = query_lead(alloc, self.name.as_slice(), self.version)?;
+        self.client
+            .dispatch(alloc, label.copy(alloc)?, &lead, text.as_slice(), up)?;
+        Ok(None)
+    }
+
+    fn reply<W: Wire>(
+        &mut self,
+        alloc: Global,
+        label: &Blob,
+        text: &Blob,
+        down: &mut W,
+    ) -> Result<Option<Refusal>, Failure>
+        requires { IsText text.now }
+        ensures counts { W.faults down.old ≤ W.faults down.new }
+        ensures honest { W.honest down.old ↔ W.honest down.new }
+        ensures fault { IsErrOf result failure.WireFault → Rose (W.faults down.old) (W.faults down.new) }
+        ensures schema { (self.new.name ≡ self.old.name) × (self.new.version ≡ self.old.version) }
+        ensures label { self.new.client.label ≡ self.old.client.label }
+        ensures told { (sent given : Option (List ℕ)) → Tells self.old sent given (W.sent down.old) (W.given down.old)
+            → OnOk result (Tells self.new sent given (W.sent down.new) (W.given down.new)) }
+        ensures world { (w : World) (sent given : Option (List ℕ)) → W.honest down.old → Stands self.old w sent given (W.sent down.old) (W.given down.old)
+            → IfOk result (λ answer. (answer ≡ refusal w (event.Reply label.now text.now)) × Stands self.new (step w (event.Reply label.now text.now)) sent given (W.sent down.new) (W.given down.new)) }
+    {
+        if !self.has_label(label) {
+            return Ok(Some(Refusal::NoSuchLabel));
+        }
+        if !self.server.inbox.is_front() {
+            return Ok(Some(Refusal::Closed));
+        }
+        if !self.server.is_waiting() {
+            return Ok(Some(Refusal::NoSuch));
+        }
+        self.server.respond(alloc, text.as_slice(), down)?;
+        Ok(None)
+    }
+
+    fn move_up<W: Wire>(
+        &mut self,
+        alloc: Global,
+        count: Option<u64>,
+        by: u64,
+        up: &mut W,
+    ) -> Result<(), Failure>
+        requires { 1 ≤ by }
+        ensures counts { W.faults up.old ≤ W.faults up.new }
+        ensures honest { W.honest up.old ↔ W.honest up.new }
+        ensures fault { IsErrOf result failure.WireFault → Rose (W.faults up.old) (W.faults up.new) }
+        ensures schema { (self.new.name ≡ self.old.name) × (self.new.version ≡ self.old.version) }
+        ensures label { self.new.client.label ≡ self.old.client.label }
+        ensures told { (sent given : Option (List ℕ)) → Tells self.old (W.sent up.old) (W.given up.old) sent given
+            → OnOk result (Tells self.new (W.sent up.new) (W.given up.new) sent given) }
+        ensures world { (w : World) (sent given : Option (List ℕ)) → W.honest up.old → Stands self.old w (W.sent up.old) (W.given up.old) sent given
+            → OnOk result (Stands self.new (effect w (event.Up count by)) (W.sent up.new) (W.given up.new) sent given) }
+    {
+        let in_flight = self
+            .client
+            .put
+            .saturating_sub(self.server.inbox.bytes.len());
+        carry(
+            alloc,
+            up,
+            &mut self.server.inbox,
+            moved(count, in_flight),
+            by as usize,
+        )?;
+        Ok(())
+    }
+
+    fn move_down<W: Wire>(
+        &mut self,
+        alloc: Global,
+        count: Option<u64>,
+        by: u64,
+        down: &mut W,
+    ) -> Result<(), Failure>
+        requires { 1 ≤ by }
+        ensures counts { W.faults down.old ≤ W.faults down.new }
+        ensures honest { W.honest down.old ↔ W.honest down.new }
+        ensures fault { IsErrOf result failure.WireFault → Rose (W.faults down.old) (W.faults down.new) }
+        ensures schema { (self.new.name ≡ self.old.name) × (self.new.version ≡ self.old.version) }
+        ensures label { self.new.client.label ≡ self.old.client.label }
+        ensures told { (sent given : Option (List ℕ)) → Tells self.old sent given (W.sent down.old) (W.given down.old)
+            → OnOk result (Tells self.new sent given (W.sent down.new) (W.given down.new)) }
+        ensures world { (w : World) (sent given : Option (List ℕ)) → W.honest down.old → Stands self.old w sent given (W.sent down.old) (W.given down.old)
+            → OnOk result (Stands self.new (effect w (event.Down count by)) sent given (W.sent down.new) (W.given down.new)) }
+    {
+        let in_flight = self
+            .server
+            .put
+            .saturating_sub(self.client.inbox.bytes.len());
+        carry(
+            alloc,
+            down,
+            &mut self.client.inbox,
+            moved(count, in_flight),
+            by as usize,
+        )?;
+        Ok(())
+    }
+
+    /// Whether both ends have a procedure of this name and version.
+    fn knows(&self, name: &Blob, version: u8) -> bool
+        ensures { result ≡ (bytes_eq name.now self.now.name && nat_eq version self.now.version) }
+    {
+        name.as_slice() == self.name.as_slice() && version == self.version
+    }
+
+    fn has_label(&self, label: &Blob) -> bool
+        ensures { result ≡ list_any (bytes_eq label.now) (labels_of self.now.client.label) }
+    {
+        match &self.client.label {
+            Some(made) => label.as_slice() == made.as_slice(),
+            None => false,
+        }
+    }
+}
+
+/// How many of the bytes in flight a movement of so many, or of all, moves.
+fn moved(count: Option<u64>, in_flight: usize) -> usize
+    ensures { result ≡ moved_of count in_flight }
+{
+    match count {
+        Some(count) => in_flight.min(count as usize),
+        None => in_flight,
+    }
+}
