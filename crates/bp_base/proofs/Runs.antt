@@ -10,13 +10,13 @@ use Rattle.bp_base.specs.Whole.{Came}
 pub record ReadSoFar {S : Type 0} (given left : S → Option (List ℕ)) (ended : S → Bool) (faults : S → ℕ) (old now : S) (max : ℕ) (bytes : List ℕ) : Type 0 where
   pub came : Came (given old) (given now) (left old) (left now) bytes
   pub ended_same : ended now ≡ ended old
-  pub counts : faults old ≤ faults now
+  pub steady : faults now ≡ faults old
   pub fits : length bytes ≤ max
 
 -- so many bytes of the piece were written so far
 pub record WrittenSoFar {K : Type 0} (put : K → Option (List ℕ)) (faults : K → ℕ) (old now : K) (piece : List ℕ) (written : ℕ) : Type 0 where
   pub taken : Appends (put old) (put now) (take written piece)
-  pub counts : faults old ≤ faults now
+  pub steady : faults now ≡ faults old
   pub within : written ≤ length piece
 
 -- more bytes came

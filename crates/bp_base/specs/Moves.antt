@@ -6,6 +6,8 @@ use Rattle.bp_base.specs.declared.source.ReadGot.{ReadGot}
 use Rattle.bp_base.specs.declared.source.ReadGot.TheVariants as read
 use Rattle.bp_base.specs.declared.sink.Wrote.{Wrote}
 use Rattle.bp_base.specs.declared.sink.Wrote.TheVariants as write
+use Rattle.bp_base.specs.declared.sink.Finished.{Finished}
+use Rattle.bp_base.specs.declared.sink.Finished.TheVariants as flush
 use Rattle.bp_base.specs.declared.wire.PutDone.{PutDone}
 use Rattle.bp_base.specs.declared.wire.PutDone.TheVariants as done
 use Rattle.bp_base.specs.declared.wire.Got.{Got}
@@ -31,6 +33,13 @@ ReadFits read.Idle room = ⊤
 ReadFits read.End room = ⊤
 ReadFits read.Failed room = ⊤
 
+-- a read that did not fail leaves the count of faults
+abbrev pub ReadIsSteady : ReadGot → ℕ → ℕ → Type 0
+ReadIsSteady (read.Bytes count) before now = now ≡ before
+ReadIsSteady read.Idle before now = now ≡ before
+ReadIsSteady read.End before now = now ≡ before
+ReadIsSteady read.Failed before now = ⊤
+
 -- whether a source is ended after a read: End ends it, and nothing else changes that
 abbrev pub ended_after : Bool → ReadGot → Bool
 ended_after before (read.Bytes count) = before
@@ -49,6 +58,15 @@ write_count write.Failed = 0
 abbrev pub WriteFits : Wrote → ℕ → Type 0
 WriteFits (write.Bytes count) len = (1 ≤ count) × (count ≤ len)
 WriteFits write.Failed len = ⊤
+
+-- a write, and a flush, that did not fail leave the count of faults
+abbrev pub WriteIsSteady : Wrote → ℕ → ℕ → Type 0
+WriteIsSteady (write.Bytes count) before now = now ≡ before
+WriteIsSteady write.Failed before now = ⊤
+
+abbrev pub FlushIsSteady : Finished → ℕ → ℕ → Type 0
+FlushIsSteady flush.Done before now = now ≡ before
+FlushIsSteady flush.Failed before now = ⊤
 
 -- ---- a wire
 
@@ -69,6 +87,17 @@ abbrev pub GotFits : Got → ℕ → Type 0
 GotFits got.Exact room = ⊤
 GotFits (got.Less count) room = count < room
 GotFits got.Failed room = ⊤
+
+-- a put, and a get, that did not fail leave the count of faults
+abbrev pub PutIsSteady : PutDone → ℕ → ℕ → Type 0
+PutIsSteady done.Done before now = now ≡ before
+PutIsSteady done.OutOfMemory before now = now ≡ before
+PutIsSteady done.Failed before now = ⊤
+
+abbrev pub GetIsSteady : Got → ℕ → ℕ → Type 0
+GetIsSteady got.Exact before now = now ≡ before
+GetIsSteady (got.Less count) before now = now ≡ before
+GetIsSteady got.Failed before now = ⊤
 
 -- how many bytes of those sent were not given yet, where the wire tells both
 abbrev pub in_flight : Option (List ℕ) → Option (List ℕ) → Option ℕ

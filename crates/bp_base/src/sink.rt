@@ -2,7 +2,7 @@
 ghost use Rattle.std.specs.Prelude.{◌≡◌, ℕ, ◌≤◌, List, length, take};
 ghost use Rattle.std.specs.declared.option.Option.{Option};
 ghost use Rattle.std.specs.Io.KnownBytes.{Appends, Keeps};
-ghost use Rattle.bp_base.specs.Moves.{Rose, write_count, WriteFits};
+ghost use Rattle.bp_base.specs.Moves.{Rose, write_count, WriteFits, WriteIsSteady, FlushIsSteady};
 
 /// What a write took.
 #[derive(Clone, Copy, Debug, PartialEq, Eq)]
@@ -38,14 +38,16 @@ pub trait Sink {
         ensures taken { Appends (put self.old) (put self.new) (take (write_count result) piece.now) }
 
         ensures counts { faults self.old ≤ faults self.new }
-        ensures failed { result ≡ Wrote.Failed → Rose (faults self.old) (faults self.new) };
+        ensures failed { result ≡ Wrote.Failed → Rose (faults self.old) (faults self.new) }
+        ensures steady { WriteIsSteady result (faults self.old) (faults self.new) };
 
     /// Flushes what was taken.
     fn finish(&mut self) -> Finished
         ensures kept { Keeps (put self.old) (put self.new) }
 
         ensures counts { faults self.old ≤ faults self.new }
-        ensures failed { result ≡ Finished.Failed → Rose (faults self.old) (faults self.new) };
+        ensures failed { result ≡ Finished.Failed → Rose (faults self.old) (faults self.new) }
+        ensures steady { FlushIsSteady result (faults self.old) (faults self.new) };
 }
 
 impl<K: Sink> Sink for &mut K {

@@ -2,7 +2,7 @@
 ghost use Rattle.std.specs.Prelude.{◌≡◌, ◌≢◌, ℕ, ◌≤◌, Bool, List, length, take, drop};
 ghost use Rattle.std.specs.declared.option.Option.{Option};
 ghost use Rattle.std.specs.Io.KnownBytes.{Appends, Consumes, IsAtEnd};
-ghost use Rattle.bp_base.specs.Moves.{Rose, read_count, ReadFits, ended_after};
+ghost use Rattle.bp_base.specs.Moves.{Rose, read_count, ReadFits, ReadIsSteady, ended_after};
 
 /// How long a read may wait for its first byte.
 #[derive(Clone, Copy, Debug, PartialEq, Eq)]
@@ -56,7 +56,8 @@ pub trait Source {
         ensures ended { ended self.new ≡ ended_after (ended self.old) result }
 
         ensures counts { faults self.old ≤ faults self.new }
-        ensures failed { result ≡ ReadGot.Failed → Rose (faults self.old) (faults self.new) };
+        ensures failed { result ≡ ReadGot.Failed → Rose (faults self.old) (faults self.new) }
+        ensures steady { ReadIsSteady result (faults self.old) (faults self.new) };
 }
 
 impl<S: Source> Source for &mut S {

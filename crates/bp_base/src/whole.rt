@@ -22,6 +22,7 @@ pub fn read_all<S: Source>(alloc: Global, src: &mut S, max: usize) -> Result<Vec
 
     ensures counts { S.faults src.old ≤ S.faults src.new }
     ensures fault { IsErrOf result ReadAllError.ReadFault → Rose (S.faults src.old) (S.faults src.new) }
+    ensures steady { ¬ IsErrOf result ReadAllError.ReadFault → S.faults src.new ≡ S.faults src.old }
 {
     let mut all = Vec::new(alloc);
     let mut chunk = [0; CHUNK];
@@ -48,6 +49,7 @@ pub fn write_all<K: Sink>(sink: &mut K, piece: &[u8]) -> Result<(), WriteFault>
 
     ensures counts { K.faults sink.old ≤ K.faults sink.new }
     ensures fault { IfErr result (λ _. Rose (K.faults sink.old) (K.faults sink.new)) }
+    ensures steady { OnOk result (K.faults sink.new ≡ K.faults sink.old) }
 {
     let mut written = 0;
     'writes: while written < piece.len() {

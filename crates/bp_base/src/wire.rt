@@ -2,7 +2,7 @@
 ghost use Rattle.std.specs.Prelude.{◌≡◌, ◌↔◌, ℕ, ◌≤◌, List, length};
 ghost use Rattle.std.specs.declared.option.Option.{Option};
 ghost use Rattle.std.specs.Io.KnownBytes.{Appends, Keeps};
-ghost use Rattle.bp_base.specs.Moves.{Rose, put_bytes, got_bytes, GotFits, in_flight, GotAll, GivenIsFront};
+ghost use Rattle.bp_base.specs.Moves.{Rose, PutIsSteady, GetIsSteady, put_bytes, got_bytes, GotFits, in_flight, GotAll, GivenIsFront};
 
 /// How a put went.
 #[derive(Clone, Copy, Debug, PartialEq, Eq)]
@@ -49,7 +49,8 @@ pub trait Wire {
         ensures honest { honest self.old ↔ honest self.new }
 
         ensures counts { faults self.old ≤ faults self.new }
-        ensures failed { result ≡ PutDone.Failed → Rose (faults self.old) (faults self.new) };
+        ensures failed { result ≡ PutDone.Failed → Rose (faults self.old) (faults self.new) }
+        ensures steady { PutIsSteady result (faults self.old) (faults self.new) };
 
     /// Fills `into` with the next bytes, or its front with all that there are.
     fn get(&mut self, into: &mut [u8]) -> Got
@@ -62,7 +63,8 @@ pub trait Wire {
         ensures honest { honest self.old ↔ honest self.new }
 
         ensures counts { faults self.old ≤ faults self.new }
-        ensures failed { result ≡ Got.Failed → Rose (faults self.old) (faults self.new) };
+        ensures failed { result ≡ Got.Failed → Rose (faults self.old) (faults self.new) }
+        ensures steady { GetIsSteady result (faults self.old) (faults self.new) };
 
     /// What an honest wire has given is a front of what was sent.
     ghost front: { (wire : Self) → honest wire → GivenIsFront (sent wire) (given wire) };

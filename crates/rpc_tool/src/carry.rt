@@ -24,6 +24,7 @@ pub fn carry<W: Wire>(
     ensures honest { W.honest wire.old ↔ W.honest wire.new }
     ensures counts { W.faults wire.old ≤ W.faults wire.new }
     ensures fault { IsErrOf result failure.WireFault → Rose (W.faults wire.old) (W.faults wire.new) }
+    ensures steady { ¬ IsErrOf result failure.WireFault → W.faults wire.new ≡ W.faults wire.old }
     ensures awaited { inbox.new.awaited ≡ inbox.old.awaited }
 
     // Whatever the wire gives stands in the inbox.
@@ -52,6 +53,7 @@ fn carry_piece<W: Wire>(wire: &mut W, inbox: &mut Inbox, buffer: &mut [u8]) -> R
     ensures honest { W.honest wire.old ↔ W.honest wire.new }
     ensures counts { W.faults wire.old ≤ W.faults wire.new }
     ensures fault { IsErrOf result failure.WireFault → Rose (W.faults wire.old) (W.faults wire.new) }
+    ensures steady { ¬ IsErrOf result failure.WireFault → W.faults wire.new ≡ W.faults wire.old }
     ensures awaited { inbox.new.awaited ≡ inbox.old.awaited }
     ensures given { W.given wire.old ≡ Some inbox.old.bytes.items → OnOk result (W.given wire.new ≡ Some inbox.new.bytes.items) }
     ensures moved { (stream : List ℕ) → W.honest wire.old → W.sent wire.old ≡ Some stream → W.given wire.old ≡ Some inbox.old.bytes.items

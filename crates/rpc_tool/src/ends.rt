@@ -45,6 +45,7 @@ impl Client {
         ensures honest { W.honest up.old ↔ W.honest up.new }
         ensures counts { W.faults up.old ≤ W.faults up.new }
         ensures fault { IsErrOf result failure.WireFault → Rose (W.faults up.old) (W.faults up.new) }
+        ensures steady { ¬ IsErrOf result failure.WireFault → W.faults up.new ≡ W.faults up.old }
         ensures label { IfOk result (λ client. client.label ≡ None) }
         ensures bytes { IfOk result (λ client. client.inbox.bytes.items ≡ []) }
         ensures put { IfOk result (λ client. client.put ≡ length header) }
@@ -78,6 +79,7 @@ impl Client {
         ensures honest { W.honest up.old ↔ W.honest up.new }
         ensures counts { W.faults up.old ≤ W.faults up.new }
         ensures fault { IsErrOf result failure.WireFault → Rose (W.faults up.old) (W.faults up.new) }
+        ensures steady { ¬ IsErrOf result failure.WireFault → W.faults up.new ≡ W.faults up.old }
         ensures label { OnOk result (self.new.label ≡ Some label) }
         ensures bytes { self.new.inbox.bytes ≡ self.old.inbox.bytes }
         ensures put { OnOk result (self.new.put ≡ self.old.put + length (message lead.now text.now)) }
@@ -107,6 +109,7 @@ impl Server {
         ensures honest { W.honest down.old ↔ W.honest down.new }
         ensures counts { W.faults down.old ≤ W.faults down.new }
         ensures fault { IsErrOf result failure.WireFault → Rose (W.faults down.old) (W.faults down.new) }
+        ensures steady { ¬ IsErrOf result failure.WireFault → W.faults down.new ≡ W.faults down.old }
         ensures answered { IfOk result (λ server. server.answered ≡ false) }
         ensures awaited { IfOk result (λ server. server.inbox.awaited ≡ Some (query_lead name.now version)) }
         ensures bytes { IfOk result (λ server. server.inbox.bytes.items ≡ []) }
@@ -146,6 +149,7 @@ impl Server {
         ensures honest { W.honest down.old ↔ W.honest down.new }
         ensures counts { W.faults down.old ≤ W.faults down.new }
         ensures fault { IsErrOf result failure.WireFault → Rose (W.faults down.old) (W.faults down.new) }
+        ensures steady { ¬ IsErrOf result failure.WireFault → W.faults down.new ≡ W.faults down.old }
         ensures answered { OnOk result (self.new.answered ≡ true) }
         ensures inbox { self.new.inbox ≡ self.old.inbox }
         ensures put { OnOk result (self.new.put ≡ self.old.put + length (message response_lead text.now)) }
@@ -165,6 +169,7 @@ fn put<W: Wire>(wire: &mut W, piece: &[u8]) -> Result<(), Failure>
     ensures honest { W.honest wire.old ↔ W.honest wire.new }
     ensures counts { W.faults wire.old ≤ W.faults wire.new }
     ensures fault { IsErrOf result failure.WireFault → Rose (W.faults wire.old) (W.faults wire.new) }
+    ensures steady { ¬ IsErrOf result failure.WireFault → W.faults wire.new ≡ W.faults wire.old }
 {
     match wire.put(piece) {
         PutDone::Done => Ok(()),

@@ -49,6 +49,8 @@ impl Pair {
         ensures down_honest { W.honest down.old ↔ W.honest down.new }
         ensures fault { IsErrOf result failure.WireFault
             → Rose (W.faults up.old) (W.faults up.new) ⊎ Rose (W.faults down.old) (W.faults down.new) }
+        ensures steady { ¬ IsErrOf result failure.WireFault
+            → (W.faults up.new ≡ W.faults up.old) × (W.faults down.new ≡ W.faults down.old) }
         ensures schema { IfOk result (λ pair. (pair.name ≡ name) × (pair.version ≡ version) × (pair.client.label ≡ None)) }
 
         // Over fresh wires that tell their bytes.
@@ -82,6 +84,8 @@ impl Pair {
         ensures down_honest { W.honest down.old ↔ W.honest down.new }
         ensures fault { IsErrOf result failure.WireFault
             → Rose (W.faults up.old) (W.faults up.new) ⊎ Rose (W.faults down.old) (W.faults down.new) }
+        ensures steady { ¬ IsErrOf result failure.WireFault
+            → (W.faults up.new ≡ W.faults up.old) × (W.faults down.new ≡ W.faults down.old) }
         ensures schema { (self.new.name ≡ self.old.name) × (self.new.version ≡ self.old.version) }
         ensures label { OnOk result (LabelAfter self.old.client.label event.now self.new.client.label) }
 
@@ -125,6 +129,7 @@ impl Pair {
         ensures counts { W.faults up.old ≤ W.faults up.new }
         ensures honest { W.honest up.old ↔ W.honest up.new }
         ensures fault { IsErrOf result failure.WireFault → Rose (W.faults up.old) (W.faults up.new) }
+        ensures steady { ¬ IsErrOf result failure.WireFault → W.faults up.new ≡ W.faults up.old }
         ensures schema { (self.new.name ≡ self.old.name) × (self.new.version ≡ self.old.version) }
         ensures label { OnOk result ((self.new.client.label ≡ None) ⊎ (self.new.client.label ≡ Some label.now)) }
         ensures told { (sent given : Option (List ℕ)) → Tells self.old (W.sent up.old) (W.given up.old) sent given
@@ -158,6 +163,7 @@ impl Pair {
         ensures counts { W.faults down.old ≤ W.faults down.new }
         ensures honest { W.honest down.old ↔ W.honest down.new }
         ensures fault { IsErrOf result failure.WireFault → Rose (W.faults down.old) (W.faults down.new) }
+        ensures steady { ¬ IsErrOf result failure.WireFault → W.faults down.new ≡ W.faults down.old }
         ensures schema { (self.new.name ≡ self.old.name) × (self.new.version ≡ self.old.version) }
         ensures label { self.new.client.label ≡ self.old.client.label }
         ensures told { (sent given : Option (List ℕ)) → Tells self.old sent given (W.sent down.old) (W.given down.old)
@@ -189,6 +195,7 @@ impl Pair {
         ensures counts { W.faults up.old ≤ W.faults up.new }
         ensures honest { W.honest up.old ↔ W.honest up.new }
         ensures fault { IsErrOf result failure.WireFault → Rose (W.faults up.old) (W.faults up.new) }
+        ensures steady { ¬ IsErrOf result failure.WireFault → W.faults up.new ≡ W.faults up.old }
         ensures schema { (self.new.name ≡ self.old.name) × (self.new.version ≡ self.old.version) }
         ensures label { self.new.client.label ≡ self.old.client.label }
         ensures told { (sent given : Option (List ℕ)) → Tells self.old (W.sent up.old) (W.given up.old) sent given
@@ -221,6 +228,7 @@ impl Pair {
         ensures counts { W.faults down.old ≤ W.faults down.new }
         ensures honest { W.honest down.old ↔ W.honest down.new }
         ensures fault { IsErrOf result failure.WireFault → Rose (W.faults down.old) (W.faults down.new) }
+        ensures steady { ¬ IsErrOf result failure.WireFault → W.faults down.new ≡ W.faults down.old }
         ensures schema { (self.new.name ≡ self.old.name) × (self.new.version ≡ self.old.version) }
         ensures label { self.new.client.label ≡ self.old.client.label }
         ensures told { (sent given : Option (List ℕ)) → Tells self.old sent given (W.sent down.old) (W.given down.old)

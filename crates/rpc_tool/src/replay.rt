@@ -1,5 +1,5 @@
 // The replay of a schedule over two wires.
-ghost use Rattle.std.specs.Prelude.{◌⊎◌, IfOk, IsErrOf};
+ghost use Rattle.std.specs.Prelude.{◌≡◌, ◌⊎◌, IfOk, IsErrOf};
 ghost use Rattle.bp_base.specs.Moves.{Rose};
 ghost use Rattle.rpc_world.specs.Input.{IsWellFormed};
 ghost use Rattle.rpc_tool.specs.declared.failure.Failure.TheVariants as failure;
@@ -23,6 +23,8 @@ pub fn replay<W: Wire>(
     requires { IsWellFormed schedule.now }
     ensures fault { IsErrOf result failure.WireFault
         → Rose (W.faults up.old) (W.faults up.new) ⊎ Rose (W.faults down.old) (W.faults down.new) }
+    ensures steady { ¬ IsErrOf result failure.WireFault
+        → (W.faults up.new ≡ W.faults up.old) × (W.faults down.new ≡ W.faults down.old) }
 
     // Over fresh wires that tell their bytes, honest or not.
     ensures reported { AreFresh (W.sent up.old) (W.given up.old) (W.sent down.old) (W.given down.old)

@@ -1,6 +1,6 @@
 // The top call of the program `rpc`.
 ghost use Rattle.std.specs.declared.alloc.Global.{Global};
-ghost use Rattle.std.specs.Prelude.{String, Some, None, ◌≡◌, ◌≤◌, ◌<◌, ◌^◌, ◌⊎◌, ◌↔◌, true, ℕ, List, length, IsTrue, IfSome};
+ghost use Rattle.std.specs.Prelude.{String, Some, None, ◌≡◌, ◌≢◌, ◌≤◌, ◌<◌, ◌^◌, ◌⊎◌, ◌↔◌, true, ℕ, List, length, IsTrue, IfSome};
 ghost use Rattle.std.specs.Io.KnownBytes.{Keeps, IsAtEnd};
 ghost use Rattle.bp_base.specs.Moves.{Rose};
 ghost use Rattle.bp_base.specs.Whole.{Came};
@@ -42,6 +42,11 @@ pub fn run<I: Source, O: Sink, W: Wire>(
     ensures read { result ≡ 3 → Rose (I.faults input.old) (I.faults input.new) }
     ensures write { result ≡ 4 → Rose (O.faults out.old) (O.faults out.new) }
     ensures wire { result ≡ 5 → Rose (W.faults up.old) (W.faults up.new) ⊎ Rose (W.faults down.old) (W.faults down.new) }
+
+    // And no fault is passed over: at every other status the count of the object stands as it stood.
+    ensures read_steady { result ≢ 3 → I.faults input.new ≡ I.faults input.old }
+    ensures write_steady { result ≢ 4 → O.faults out.new ≡ O.faults out.old }
+    ensures wire_steady { result ≢ 5 → (W.faults up.new ≡ W.faults up.old) × (W.faults down.new ≡ W.faults down.old) }
 
     // What the status means, of the bytes of input that came: all of it, where it was read to its end.
     ensures means { (status : Status) × (bytes : List ℕ) × (result ≡ code_of status)
@@ -88,6 +93,9 @@ fn replay_input<I: Source, O: Sink, W: Wire>(
     ensures read { result ≡ outcome.ReadFault → Rose (I.faults input.old) (I.faults input.new) }
     ensures write { result ≡ outcome.WriteFault → Rose (O.faults out.old) (O.faults out.new) }
     ensures wire { result ≡ outcome.WireFault → Rose (W.faults up.old) (W.faults up.new) ⊎ Rose (W.faults down.old) (W.faults down.new) }
+    ensures read_steady { result ≢ outcome.ReadFault → I.faults input.new ≡ I.faults input.old }
+    ensures write_steady { result ≢ outcome.WriteFault → O.faults out.new ≡ O.faults out.old }
+    ensures wire_steady { result ≢ outcome.WireFault → (W.faults up.new ≡ W.faults up.old) × (W.faults down.new ≡ W.faults down.old) }
     ensures means { (bytes : List ℕ)
         × Came (I.given input.old) (I.given input.new) (I.left input.old) (I.left input.new) bytes
         × (result ≡ outcome.TooLong ↔ 2 ^ 26 < length bytes)
@@ -115,6 +123,8 @@ fn replay_text<O: Sink, W: Wire>(
 ) -> Status
     ensures write { result ≡ outcome.WriteFault → Rose (O.faults out.old) (O.faults out.new) }
     ensures wire { result ≡ outcome.WireFault → Rose (W.faults up.old) (W.faults up.new) ⊎ Rose (W.faults down.old) (W.faults down.new) }
+    ensures write_steady { result ≢ outcome.WriteFault → O.faults out.new ≡ O.faults out.old }
+    ensures wire_steady { result ≢ outcome.WireFault → (W.faults up.new ≡ W.faults up.old) × (W.faults down.new ≡ W.faults down.old) }
     ensures through { IsReadThrough result }
     ensures means { (words : List (String Global)) → IsReplay words → Means words text.now
         (IsReport (W.honest up.old × W.honest down.old) (AreFresh (W.sent up.old) (W.given up.old) (W.sent down.old) (W.given down.old))
@@ -135,6 +145,7 @@ fn replay_text<O: Sink, W: Wire>(
 /// Writes which line of the input is refused.
 fn refuse<O: Sink>(alloc: Global, number: u64, out: &mut O) -> Status
     ensures write { result ≡ outcome.WriteFault → Rose (O.faults out.old) (O.faults out.new) }
+    ensures write_steady { result ≢ outcome.WriteFault → O.faults out.new ≡ O.faults out.old }
     ensures answered { IsAnswered outcome.Refused (refused_line number) (O.put out.old) (O.put out.new) result
         ⊎ ((result ≡ outcome.OutOfMemory) × Keeps (O.put out.old) (O.put out.new)) }
 {
@@ -149,6 +160,7 @@ fn refuse<O: Sink>(alloc: Global, number: u64, out: &mut O) -> Status
 fn answer<O: Sink>(out: &mut O, text: &[u8], status: Status) -> Status
     ensures counts { O.faults out.old ≤ O.faults out.new }
     ensures write { result ≡ outcome.WriteFault → (status ≡ outcome.WriteFault) ⊎ Rose (O.faults out.old) (O.faults out.new) }
+    ensures write_steady { result ≢ outcome.WriteFault → O.faults out.new ≡ O.faults out.old }
     ensures answered { IsAnswered status text.now (O.put out.old) (O.put out.new) result }
 {
     let Ok(()) = write_all(out, text) else {

@@ -9,7 +9,7 @@ invariant-pieces g l = record {
   room : length l.buffer.items ≡ min l.by l.count;
   sent : Keeps (g.W.Wire.sent l.fn.wire) (g.W.Wire.sent l.wire);
   honest : g.W.Wire.honest l.fn.wire ↔ g.W.Wire.honest l.wire;
-  counts : g.W.Wire.faults l.fn.wire ≤ g.W.Wire.faults l.wire;
+  steady : g.W.Wire.faults l.wire ≡ g.W.Wire.faults l.fn.wire;
   awaited : l.inbox.awaited ≡ l.fn.inbox.awaited;
   given : g.W.Wire.given l.fn.wire ≡ Some l.fn.inbox.bytes.items → g.W.Wire.given l.wire ≡ Some l.inbox.bytes.items;
   moved : (stream : List ℕ) → g.W.Wire.honest l.fn.wire → g.W.Wire.sent l.fn.wire ≡ Some stream → g.W.Wire.given l.fn.wire ≡ Some l.fn.inbox.bytes.items

@@ -17,8 +17,7 @@ events-preserved g c =
     let first = first_world c.args.schedule.now.name c.args.schedule.now.version in
     record {
       within = omega arith;
-      up_counts = omega arith;
-      down_counts = omega arith;
+      steady = (let s = c.in_ok-answer.ensures.steady (λ is. cc) in (s.0 ∙ c.events.invariant.steady.0, s.1 ∙ c.events.invariant.steady.1));
       up_honest = (λ h. c.in_ok-answer.ensures.up_honest.0 (c.events.invariant.up_honest.0 h), λ h. c.events.invariant.up_honest.1 (c.in_ok-answer.ensures.up_honest.1 h));
       down_honest = (λ h. c.in_ok-answer.ensures.down_honest.0 (c.events.invariant.down_honest.0 h), λ h. c.events.invariant.down_honest.1 (c.in_ok-answer.ensures.down_honest.1 h));
       name = c.in_ok-answer.ensures.schema.0 ∙ c.events.invariant.name;

@@ -8,8 +8,7 @@ use Rattle.rpc_tool.proofs.replay.replay.Given as goal
 abbrev pub invariant-events : goal.invariant-events
 invariant-events g l = record {
   within : l.index ≤ length l.events;
-  up_counts : g.W.Wire.faults l.fn.up ≤ g.W.Wire.faults l.up;
-  down_counts : g.W.Wire.faults l.fn.down ≤ g.W.Wire.faults l.down;
+  steady : (g.W.Wire.faults l.up ≡ g.W.Wire.faults l.fn.up) × (g.W.Wire.faults l.down ≡ g.W.Wire.faults l.fn.down);
   up_honest : g.W.Wire.honest l.fn.up ↔ g.W.Wire.honest l.up;
   down_honest : g.W.Wire.honest l.fn.down ↔ g.W.Wire.honest l.down;
   name : l.pair.name ≡ l.fn.schedule.name;
