@@ -1,5 +1,6 @@
 use crate::*;
 use std::alloc::{AllocError, Global};
+use std::io::BufWriter;
 use std::test::Fail;
 
 fn pieces(alloc: Global, texts: &[&[u8]]) -> Result<Vec<Vec<u8>>, AllocError> {
@@ -196,10 +197,12 @@ fn readers_and_writers_of_std_are_sources_and_sinks(rt: HostRuntime) -> Result<(
         read_all(alloc, &mut source, 3)?.as_slice(),
         b"abc".as_slice()
     );
-    let mut bytes = Vec::new(alloc);
-    let mut sink = StreamSink::new(&mut bytes);
+    // The flush empties the writer's buffer.
+    let mut buffered = BufWriter::new(alloc, Vec::new(alloc))?;
+    let mut sink = StreamSink::new(&mut buffered);
     assert_eq!(rt; write_all(&mut sink, b"abc"), Ok(()));
     assert_eq!(rt; sink.finish(), Finished::Done);
-    assert_eq!(rt; bytes.as_slice(), b"abc".as_slice());
+    assert_eq!(rt; buffered.buffer().len(), 0);
+    assert_eq!(rt; buffered.get_ref().as_slice(), b"abc".as_slice());
     Ok(())
 }
