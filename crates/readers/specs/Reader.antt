@@ -1,6 +1,6 @@
 -- The theory of readers. A language says which symbols are a text of which value. A reader takes the front of some symbols.
 -- Symbols are bytes, or tokens.
-use Rattle.std.specs.Prelude.{Option, Some, None, ◌≡◌, ℕ, zero, suc, ◌≤◌, ◌<◌, Bool, true, false, if◌then◌else◌, nat_eq, List, [], ◌∷◌, ◌++◌, length, take, ◌⊎◌}
+use Rattle.std.specs.Prelude.{Option, Some, None, ◌≡◌, ℕ, zero, suc, ◌+◌, ◌≤◌, ◌<◌, Bool, true, false, if◌then◌else◌, nat_eq, List, [], ◌∷◌, ◌++◌, length, take, ◌⊎◌}
 
 -- ---- what a reader gives
 
@@ -55,21 +55,55 @@ IsByte b = b < 256
 abbrev pub Front : {S A : Type 0} → (A → List S → Type 0) → List S → Type 0
 Front {S = S} {A = A} L p = (a : A) × (x : List S) × L a (p ++ x)
 
--- the first faulty symbol of s is the b after p, and begins the last n symbols: p begins a text, p and b begin none
-pub record FaultAt {S A : Type 0} (L : A → List S → Type 0) (s p : List S) (b : S) (v : List S) (n : ℕ) : Type 0 where
+-- the first faulty symbol of s is the b after p, and begins the last n symbols: p is a front, p and b are none
+pub record FaultIn {S : Type 0} (F : List S → Type 0) (s p : List S) (b : S) (v : List S) (n : ℕ) : Type 0 where
   pub place : s ≡ p ++ b ∷ v
   pub left : n ≡ length (b ∷ v)
-  pub front : Front L p
-  pub no_front : Front L (p ++ b ∷ []) → ⊥
+  pub front : F p
+  pub no_front : F (p ++ b ∷ []) → ⊥
 
--- A reader r is right about a language L and its reasons R (b after p is at fault for w). V: the symbols that may come at all.
--- E: the symbols that may follow a whole text, since they do not go on it. E is Any where no text begins another.
-pub record Right {S W A : Type 0} (V E : S → Type 0) (L : A → List S → Type 0) (R : List S → S → W → Type 0) (r : List S → Outcome S W A) : Type 0 where
+abbrev pub FaultAt : {S A : Type 0} → (A → List S → Type 0) → List S → List S → S → List S → ℕ → Type 0
+FaultAt L s p b v n = FaultIn (Front L) s p b v n
+
+-- A reader r is right about a language L, its fronts F and its reasons R (b after p is at fault for w). V: the symbols that may
+-- come at all. E: the symbols that may follow a whole text, since they do not go on it; Any where no text begins another.
+pub record RightIn {S W A : Type 0} (V E : S → Type 0) (F : List S → Type 0) (L : A → List S → Type 0) (R : List S → S → W → Type 0) (r : List S → Outcome S W A) : Type 0 where
   pub sound : (s : List S) (a : A) (u : List S) → Each V s → r s ≡ whole a u → (t : List S) × (s ≡ t ++ u) × L a t × Follows E u
   pub complete : (a : A) (t u : List S) → L a t → Follows E u → r (t ++ u) ≡ whole a u
-  pub goes_on : (s : List S) → Each V s → r s ≡ more → Front L s
+  pub goes_on : (s : List S) → Each V s → r s ≡ more → F s
   pub faults : (s : List S) (n : ℕ) (w : W) → Each V s → r s ≡ bad n w
-      → (p : List S) × (b : S) × (v : List S) × FaultAt L s p b v n × R p b w
+      → (p : List S) × (b : S) × (v : List S) × FaultIn F s p b v n × R p b w
+
+-- the same where a front is what begins a text
+abbrev pub Right : {S W A : Type 0} → (S → Type 0) → (S → Type 0) → (A → List S → Type 0) → (List S → S → W → Type 0) → (List S → Outcome S W A) → Type 0
+Right V E L R r = RightIn V E (Front L) L R r
+
+-- F may be the fronts of a language: each text is one, and none goes on a text with what may follow it
+pub record AreFronts {S A : Type 0} (E : S → Type 0) (F : List S → Type 0) (L : A → List S → Type 0) : Type 0 where
+  pub reaches : (a : A) (t : List S) → L a t → F t
+  pub ends : (a : A) (t : List S) (b : S) (x : List S) → L a t → E b → F (t ++ b ∷ x) → ⊥
+
+-- both, as larger readers are put together
+pub record ReadsIn {S W A : Type 0} (V E : S → Type 0) (F : List S → Type 0) (L : A → List S → Type 0) (R : List S → S → W → Type 0) (r : List S → Outcome S W A) : Type 0 where
+  pub right : RightIn V E F L R r
+  pub fronts : AreFronts E F L
+
+-- ---- one reason for each place, and longer lists
+
+-- each fault has one reason, and none comes after a whole text
+pub record Tells {S W A : Type 0} (L : A → List S → Type 0) (R : List S → S → W → Type 0) : Type 0 where
+  pub one : (p : List S) (b : S) (v w : W) → R p b v → R p b w → v ≡ w
+  pub silent : (a : A) (t q : List S) (b : S) (w : W) → L a t → R (t ++ q) b w → ⊥
+
+-- what an outcome says of the same symbols and x after them
+abbrev pub Goes : {S W A : Type 0} → List S → Outcome S W A → Outcome S W A → Type 0
+Goes x (whole a u) o = o ≡ whole a (u ++ x)
+Goes x more o = Unit {0}
+Goes x (bad n w) o = o ≡ bad (n + length x) w
+
+-- what was read stays read, and what was at fault stays at fault, whatever follows
+abbrev pub Grows : {S W A : Type 0} → (List S → Outcome S W A) → Type 0
+Grows {S = S} r = (s x : List S) → Goes x (r s) (r (s ++ x))
 
 -- no reason is told
 abbrev pub Plain : {S W : Type 0} → List S → S → W → Type 0
@@ -120,6 +154,10 @@ Then {S = S} {A = A} L M b s = (a : A) × (t : List S) × (u : List S) × (s ≡
 
 abbrev pub ThenWhy : {S W A : Type 0} → (A → List S → Type 0) → (List S → S → W → Type 0) → (A → List S → S → W → Type 0) → List S → S → W → Type 0
 ThenWhy {S = S} {A = A} L R Q p b w = R p b w ⊎ ((a : A) × (t : List S) × (q : List S) × (p ≡ t ++ q) × L a t × Q a q b w)
+
+-- fronts of the first, or a text of it and then a front of the second
+abbrev pub ThenFront : {S A : Type 0} → (A → List S → Type 0) → (List S → Type 0) → (A → List S → Type 0) → List S → Type 0
+ThenFront {S = S} {A = A} L F G p = F p ⊎ ((a : A) × (t : List S) × (q : List S) × (p ≡ t ++ q) × L a t × G a q)
 
 -- the values are what a function gives
 abbrev pub Mapped : {S A B : Type 0} → (A → B) → (A → List S → Type 0) → B → List S → Type 0
@@ -176,6 +214,10 @@ Count L (suc n) vs s = Then L (λ v. Mapped (λ us. v ∷ us) (Count L n)) vs s
 abbrev pub CountWhy : {S W A : Type 0} → (A → List S → Type 0) → (List S → S → W → Type 0) → ℕ → List S → S → W → Type 0
 CountWhy L R zero p b w = ⊥
 CountWhy L R (suc n) p b w = ThenWhy L R (λ v. CountWhy L R n) p b w
+
+abbrev pub CountFront : {S A : Type 0} → (A → List S → Type 0) → (List S → Type 0) → ℕ → List S → Type 0
+CountFront L F zero p = p ≡ []
+CountFront L F (suc n) p = ThenFront L F (λ v. CountFront L F n) p
 
 abbrev pub count : {S W A : Type 0} → (List S → Outcome S W A) → ℕ → List S → Outcome S W (List A)
 count r zero s = whole [] s
