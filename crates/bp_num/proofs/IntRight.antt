@@ -106,7 +106,7 @@ Eight63Why p b w = ThenWhy (Symbols IsByte 7) NoWhy (λ p. TopWhy) p b w
 
 eight63_right : Right IsByte Any Eight63 Eight63Why (λ s. after (symbols 7 s) (λ p u. first (top_at p) u))
 eight63_right =
-    right_then IsByte Any Any (Symbols IsByte 7) NoWhy (symbols 7) (λ p. First (Top p)) (λ p. TopWhy) (λ p u. first (top_at p) u) (right_symbols IsByte 0 (lit< tt) 7) top_right
+    right_then IsByte Any Any (Symbols IsByte 7) NoWhy (symbols 7) (λ p. First (Top p)) (λ p. TopWhy) (λ p u. first (top_at p) u) (right_symbols IsByte 0 (lit< tt) 7) (λ p t l. top_right p)
     (λ a t l. (a ++ 0 ∷ [], 0 ∷ [], (0, [], refl, (lit< tt, inl (lit< tt), (refl, refl)))))
     (λ a b u v m f. follows-any (u ++ v))
 

@@ -31,7 +31,7 @@ pub plain_then : {S W A B : Type 0} (E F : S → Type 0) (L : A → List S → T
     → Right Any E L Plain r → ((a : A) → Right Any F (M a) Plain (f a)) → ((a : A) (t : List S) → L a t → (b : B) × (u : List S) × M a b u)
     → ((a : A) (b : B) (u v : List S) → M a b u → Follows F v → Follows E (u ++ v)) → Right Any F (Then L M) Plain (λ s. after (r s) f)
 plain_then E F L r M f one_right second goes meets =
-    plain Any F (Then L M) _ (λ s. after (r s) f) (right_then Any E F L Plain r M (λ a. Plain) f one_right second goes meets)
+    plain Any F (Then L M) _ (λ s. after (r s) f) (right_then Any E F L Plain r M (λ a. Plain) f one_right (λ a t l. second a) goes meets)
 
 -- ---- one symbol
 

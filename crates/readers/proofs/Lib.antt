@@ -6,3 +6,7 @@ pub mod Ends
 pub mod Separators
 pub mod Places
 pub mod ReadLines
+pub mod Fronts
+pub mod Telling
+pub mod Growing
+pub mod Keys

@@ -1,7 +1,7 @@
 -- Readers of a sequence, of mapped values, of nothing, and of a first symbol are right.
 use Rattle.std.proofs.Common.{◌≡◌, refl, sym, ap, ◌∙◌, subst, ℕ, List, [], ◌∷◌, ◌++◌, length, append_assoc, ◌⊎◌, inl, inr}
 use Rattle.std.proofs.lemmas.List.{append-nil}
-use Rattle.readers.specs.Reader.{Outcome, whole, more, bad, after, mapped, Each, Follows, Any, Front, FaultAt, Right, Then, ThenWhy, Mapped, Done, First, first}
+use Rattle.readers.specs.Reader.{Outcome, whole, more, bad, after, mapped, Each, Follows, Any, Front, FaultIn, FaultAt, RightIn, Right, AreFronts, ReadsIn, Then, ThenFront, ThenWhy, Mapped, Done, First, first}
 
 -- two ways to cut one list
 pub cut_two : {S : Type 0} (a b c d : List S) → a ++ b ≡ c ++ d
@@ -49,14 +49,56 @@ snoc p b x = append_assoc p (b ∷ []) x
 pub front-more : {S A : Type 0} (L : A → List S → Type 0) (p : List S) (b : S) (x : List S) (a : A) → L a (p ++ b ∷ x) → Front L (p ++ b ∷ [])
 front-more L p b x a l = (a, x, rw (snoc p b x) l)
 
+-- ---- sets of fronts
+
+-- what begins a text may be the fronts
+pub fronts_of : {S W A : Type 0} (V E : S → Type 0) (L : A → List S → Type 0) (R : List S → S → W → Type 0) (r : List S → Outcome S W A)
+    → Right V E L R r → AreFronts E (Front L) L
+fronts_of {S = S} {W = W} {A = A} V E L R r right = record { reaches = λ a t l. (a, [], rw (append-nil t) l); ends = ends }
+  where
+    ends : (a : A) (t : List S) (b : S) (x : List S) → L a t → E b → Front L (t ++ b ∷ x) → ⊥
+    ends a t b x l e (c, y, m) =
+        let line : (t ++ b ∷ x) ++ y ≡ t ++ b ∷ (x ++ y) = append_assoc t (b ∷ x) y in
+        let one : r (t ++ b ∷ (x ++ y)) ≡ whole a (b ∷ (x ++ y)) = right.complete a t (b ∷ (x ++ y)) l e in
+        let two : r (((t ++ b ∷ x) ++ y) ++ []) ≡ whole c [] = right.complete c ((t ++ b ∷ x) ++ y) [] m tt in
+        let same : r (t ++ b ∷ (x ++ y)) ≡ whole c [] = ap r (sym (append-nil ((t ++ b ∷ x) ++ y) ∙ line)) ∙ two in
+        cc
+
+pub reads_in : {S W A : Type 0} (V E : S → Type 0) (L : A → List S → Type 0) (R : List S → S → W → Type 0) (r : List S → Outcome S W A)
+    → Right V E L R r → ReadsIn V E (Front L) L R r
+reads_in V E L R r right = record { right = right; fronts = fronts_of V E L R r right }
+
+-- the same fronts in other words
+pub right_fronts : {S W A : Type 0} (V E : S → Type 0) (F G : List S → Type 0) (L : A → List S → Type 0) (R : List S → S → W → Type 0) (r : List S → Outcome S W A)
+    → ((p : List S) → F p → G p) → ((p : List S) → G p → F p) → RightIn V E F L R r → RightIn V E G L R r
+right_fronts V E F G L R r into out right = record {
+  sound = right.sound;
+  complete = right.complete;
+  goes_on = λ s vs h. into s (right.goes_on s vs h);
+  faults = λ s n w vs h. let (p, b, v, fault, why) = right.faults s n w vs h in
+      (p, b, v, record { place = fault.place; left = fault.left; front = into p fault.front; no_front = λ y. fault.no_front (out (p ++ b ∷ []) y) }, why);
+}
+
 -- ---- one language after another
 
-module _ {S W A B : Type 0} (V E F : S → Type 0) (L : A → List S → Type 0) (R : List S → S → W → Type 0) (r : List S → Outcome S W A)
-    (M : A → B → List S → Type 0) (Q : A → List S → S → W → Type 0) (f : A → List S → Outcome S W B)
-    (first_right : Right V E L R r) (second : (a : A) → Right V F (M a) (Q a) (f a)) (goes : (a : A) (t : List S) → L a t → (b : B) × (u : List S) × M a b u)
-    (meets : (a : A) (b : B) (u v : List S) → M a b u → Follows F v → Follows E (u ++ v)) where
+-- what may follow a text of the first: what begins a front of the second, and after an empty text of it what may follow that
+pub record Meets {S A B : Type 0} (E F : S → Type 0) (G : A → List S → Type 0) (M : A → B → List S → Type 0) (a : A) : Type 0 where
+  pub begins : (b : S) (q : List S) → G a (b ∷ q) → E b
+  pub passes : (b : B) (v : List S) → M a b [] → Follows F v → Follows E v
+
+-- where no text of the first begins another
+pub meets_any : {S A B : Type 0} (F : S → Type 0) (G : A → List S → Type 0) (M : A → B → List S → Type 0) (a : A) → Meets Any F G M a
+meets_any F G M a = record { begins = λ b q g. tt; passes = λ b v m f. follows-any v }
+
+module _ {S W A B : Type 0} (V E E' : S → Type 0) (F : List S → Type 0) (L : A → List S → Type 0) (R : List S → S → W → Type 0) (r : List S → Outcome S W A)
+    (G : A → List S → Type 0) (M : A → B → List S → Type 0) (Q : A → List S → S → W → Type 0) (f : A → List S → Outcome S W B)
+    (first_reads : ReadsIn V E F L R r) (second : (a : A) (t : List S) → L a t → ReadsIn V E' (G a) (M a) (Q a) (f a))
+    (meets : (a : A) (t : List S) → L a t → Meets E E' G M a) where
   abbrev Both : B → List S → Type 0
   Both b s = Then L M b s
+
+  abbrev Fronts : List S → Type 0
+  Fronts p = ThenFront L F G p
 
   abbrev Why : List S → S → W → Type 0
   Why p b w = ThenWhy L R Q p b w
@@ -64,108 +106,152 @@ module _ {S W A B : Type 0} (V E F : S → Type 0) (L : A → List S → Type 0)
   joined : (s t w q u : List S) → s ≡ t ++ w → w ≡ q ++ u → s ≡ (t ++ q) ++ u
   joined s t w q u d e = d ∙ (ap (λ l. t ++ l) e ∙ sym (append_assoc t q u))
 
+  -- a front of the second follows a text of the first
+  front_follows : (a : A) (t q : List S) → L a t → G a q → Follows E q
+  front_follows a t [] l g = tt
+  front_follows a t (b ∷ q) l g = (meets a t l).begins b q g
+
+  text_follows : (a : A) (b : B) (t u v : List S) → L a t → M a b u → Follows E' v → Follows E (u ++ v)
+  text_follows a b t [] v l m e = (meets a t l).passes b v m e
+  text_follows a b t (c ∷ u) v l m e = (meets a t l).begins c u ((second a t l).fronts.reaches b (c ∷ u) m)
+
+  -- what follows a whole text of the first, where two texts of it stand in front of one list
+  one_cut : (a d : A) (t p u y : List S) → L a t → L d p → Follows E u → Follows E y → t ++ u ≡ p ++ y → (a ≡ d) × (u ≡ y)
+  one_cut a d t p u y la ld eu ey cut =
+      let left : r (t ++ u) ≡ whole a u = first_reads.right.complete a t u la eu in
+      let right : r (t ++ u) ≡ whole d y = ap r cut ∙ first_reads.right.complete d p y ld ey in
+      same (sym left ∙ right)
+    where
+      same : ◌≡◌ {A = Outcome S W A} (whole a u) (whole d y) → (a ≡ d) × (u ≡ y)
+      same e = (cc, cc)
+
   sound : (s : List S) (o : Outcome S W A) → r s ≡ o → (b : B) (u : List S) → Each V s → after o f ≡ whole b u
-      → (t : List S) × (s ≡ t ++ u) × Both b t × Follows F u
+      → (t : List S) × (s ≡ t ++ u) × Both b t × Follows E' u
   sound s (whole a w) e b u vs h =
-      let x : (t : List S) × (s ≡ t ++ w) × L a t × Follows E w = first_right.sound s a w vs e in
+      let x : (t : List S) × (s ≡ t ++ w) × L a t × Follows E w = first_reads.right.sound s a w vs e in
       let ws : Each V w = each-rest V x.0 w (subst (λ l. Each V l) x.1 vs) in
-      let y : (t : List S) × (w ≡ t ++ u) × M a b t × Follows F u = (second a).sound w b u ws h in
+      let y : (t : List S) × (w ≡ t ++ u) × M a b t × Follows E' u = (second a x.0 x.2).right.sound w b u ws h in
       (x.0 ++ y.0, joined s x.0 w y.0 u x.1 y.1, (a, x.0, y.0, refl, x.2, y.2), y.3)
   sound s more e b u vs h = absurd cc
   sound s (bad n w) e b u vs h = absurd cc
 
-  complete : (b : B) (t u : List S) → Both b t → Follows F u → after (r (t ++ u)) f ≡ whole b u
+  complete : (b : B) (t u : List S) → Both b t → Follows E' u → after (r (t ++ u)) f ≡ whole b u
   complete b t u l v =
       let (a, p, q, e, la, m) = l in
       let cut : t ++ u ≡ p ++ (q ++ u) = ap (λ x. x ++ u) e ∙ append_assoc p q u in
-      let one : r (p ++ (q ++ u)) ≡ whole a (q ++ u) = first_right.complete a p (q ++ u) la (meets a b q u m v) in
-      ap (λ x. after (r x) f) cut ∙ (ap (λ o. after o f) one ∙ (second a).complete b q u m v)
+      let one : r (p ++ (q ++ u)) ≡ whole a (q ++ u) = first_reads.right.complete a p (q ++ u) la (text_follows a b p q u la m v) in
+      ap (λ x. after (r x) f) cut ∙ (ap (λ o. after o f) one ∙ (second a p la).right.complete b q u m v)
 
-  front_of : (a : A) (p : List S) (x : List S) → L a (p ++ x) → Front Both p
-  front_of a p x l =
-      let m : (b : B) × (u : List S) × M a b u = goes a (p ++ x) l in
-      (m.0, x ++ m.1, (a, p ++ x, m.1, sym (append_assoc p x m.1), l, m.2))
-
-  front_after : (a : A) (t q x : List S) (b : B) → L a t → M a b (q ++ x) → Front Both (t ++ q)
-  front_after a t q x b l m = (b, x, (a, t, q ++ x, append_assoc t q x, l, m))
-
-  goes_on : (s : List S) (o : Outcome S W A) → r s ≡ o → Each V s → after o f ≡ more → Front Both s
+  goes_on : (s : List S) (o : Outcome S W A) → r s ≡ o → Each V s → after o f ≡ more → Fronts s
   goes_on s (whole a w) e vs h =
-      let x : (t : List S) × (s ≡ t ++ w) × L a t × Follows E w = first_right.sound s a w vs e in
+      let x : (t : List S) × (s ≡ t ++ w) × L a t × Follows E w = first_reads.right.sound s a w vs e in
       let ws : Each V w = each-rest V x.0 w (subst (λ l. Each V l) x.1 vs) in
-      let y : Front (M a) w = (second a).goes_on w ws h in
-      subst (λ l. Front Both l) (sym x.1) (front_after a x.0 w y.1 y.0 x.2 y.2)
-  goes_on s more e vs h = let y : Front L s = first_right.goes_on s vs e in front_of y.0 s y.1 y.2
+      inr (a, x.0, w, x.1, x.2, (second a x.0 x.2).right.goes_on w ws h)
+  goes_on s more e vs h = inl (first_reads.right.goes_on s vs e)
   goes_on s (bad n w) e vs h = absurd cc
 
   -- a fault of the first is one of both: else a text of the first would stand in front of s
-  no_first : (s p : List S) (b : S) (v : List S) (n : ℕ) (w : W) → r s ≡ bad n w → FaultAt L s p b v n → Front Both (p ++ b ∷ []) → ⊥
-  no_first s p b v n w e fault (c, x, (a, t, u, cut, la, m)) =
-      elim (cut_two t u (p ++ b ∷ []) x (sym cut)) [
-        | inl y ↦ stands y.0 y.1 (subst (λ l. Follows E l) (append-nil u) (meets a c u [] m tt)) y.2
-        | inr y ↦ fault.no_front (a, y.0, subst (λ l. L a l) y.1 la)
-      ]
-    where
-      clash : (z : List S) → r (t ++ z) ≡ whole a z → s ≡ t ++ z → ⊥
-      clash z got at = let e' : r (t ++ z) ≡ bad n w = subst (λ l. r l ≡ bad n w) at e in cc
-
-      stands : (y : List S) → p ++ b ∷ [] ≡ t ++ y → Follows E u → u ≡ y ++ x → ⊥
-      stands [] at fe ux = fault.no_front (a, [], rw (append-nil (p ++ b ∷ []), at, append-nil t) la)
-      stands (d ∷ y) at fe ux =
-          let fd : E d = subst (λ l. Follows E l) ux fe in
-          let place : s ≡ t ++ (d ∷ y ++ v) = fault.place ∙ (sym (snoc p b v) ∙ (ap (λ l. l ++ v) at ∙ append_assoc t (d ∷ y) v)) in
-          clash (d ∷ y ++ v) (first_right.complete a t (d ∷ y ++ v) la fd) place
+  no_first : (s p : List S) (b : S) (v : List S) (n : ℕ) (w : W) → r s ≡ bad n w → FaultIn F s p b v n → Fronts (p ++ b ∷ []) → ⊥
+  no_first s p b v n w e fault (inl y) = fault.no_front y
+  no_first s p b v n w e fault (inr (a, t, [], cut, la, g)) =
+      fault.no_front (first_reads.fronts.reaches a (p ++ b ∷ []) (subst (λ l. L a l) (sym (cut ∙ append-nil t)) la))
+  no_first s p b v n w e fault (inr (a, t, d ∷ q, cut, la, g)) =
+      let place : s ≡ t ++ (d ∷ q ++ v) = fault.place ∙ (sym (snoc p b v) ∙ (ap (λ l. l ++ v) cut ∙ append_assoc t (d ∷ q) v)) in
+      let got : r s ≡ whole a (d ∷ q ++ v) = ap r place ∙ first_reads.right.complete a t (d ∷ q ++ v) la (front_follows a t (d ∷ q) la g) in
+      cc
 
   -- a fault of the second is one of both: the first reads the same text whatever follows
-  no_second : (a : A) (t q : List S) (b : S) (v : List S) → L a t → Follows E (q ++ b ∷ v) → (Front (M a) (q ++ b ∷ []) → ⊥) → Front Both ((t ++ q) ++ b ∷ []) → ⊥
-  no_second a t q b v la fe none (c, x, (d, p, u, cut, ld, m)) =
-      let fd : Follows E u = subst (λ l. Follows E l) (append-nil u) (meets d c u [] m tt) in
-      let here : t ++ ((q ++ b ∷ []) ++ x) ≡ p ++ u = sym (append_assoc t (q ++ b ∷ []) x) ∙ (ap (λ l. l ++ x) (sym (append_assoc t q (b ∷ []))) ∙ cut) in
-      let left : r (t ++ ((q ++ b ∷ []) ++ x)) ≡ whole a ((q ++ b ∷ []) ++ x) = first_right.complete a t ((q ++ b ∷ []) ++ x) la (follows-front E q b v x fe) in
-      let right : r (p ++ u) ≡ whole d u = first_right.complete d p u ld fd in
-      same (sym left ∙ (ap r here ∙ right))
+  no_second : (a : A) (t q : List S) (b : S) (v : List S) → L a t → Follows E (q ++ b ∷ v) → (G a (q ++ b ∷ []) → ⊥) → Fronts ((t ++ q) ++ b ∷ []) → ⊥
+  no_second a t q b v la fe none (inl y) = past q fe (subst F (append_assoc t q (b ∷ [])) y)
     where
-      same : ◌≡◌ {A = Outcome S W A} (whole a ((q ++ b ∷ []) ++ x)) (whole d u) → ⊥
-      same e =
-          let ad : a ≡ d = cc in
-          let ux : (q ++ b ∷ []) ++ x ≡ u = cc in
-          none (c, x, subst (λ k. M k c ((q ++ b ∷ []) ++ x)) (sym ad) (subst (λ l. M d c l) (sym ux) m))
+      past : (q : List S) → Follows E (q ++ b ∷ v) → F (t ++ (q ++ b ∷ [])) → ⊥
+      past [] fe y = first_reads.fronts.ends a t b [] la fe y
+      past (c ∷ q) fe y = first_reads.fronts.ends a t c (q ++ b ∷ []) la fe y
+  no_second a t q b v la fe none (inr (d, p, y, cut, ld, g)) =
+      let here : t ++ (q ++ b ∷ []) ≡ p ++ y = sym (append_assoc t q (b ∷ [])) ∙ cut in
+      let follows : Follows E (q ++ b ∷ []) = subst (λ l. Follows E l) (append-nil (q ++ b ∷ [])) (follows-front E q b v [] fe) in
+      let (ad, same) = one_cut a d t p (q ++ b ∷ []) y la ld follows (front_follows d p y ld g) here in
+      none (subst (λ k. G k (q ++ b ∷ [])) (sym ad) (subst (λ l. G d l) (sym same) g))
 
   faults : (s : List S) (o : Outcome S W A) → r s ≡ o → (n : ℕ) (w : W) → Each V s → after o f ≡ bad n w
-      → (p : List S) × (b : S) × (v : List S) × FaultAt Both s p b v n × Why p b w
+      → (p : List S) × (b : S) × (v : List S) × FaultIn Fronts s p b v n × Why p b w
   faults s (whole a u) e n w vs h =
-      let x : (t : List S) × (s ≡ t ++ u) × L a t × Follows E u = first_right.sound s a u vs e in
+      let x : (t : List S) × (s ≡ t ++ u) × L a t × Follows E u = first_reads.right.sound s a u vs e in
       let us : Each V u = each-rest V x.0 u (subst (λ l. Each V l) x.1 vs) in
-      let (q, b, v, fault, why) = (second a).faults u n w us h in
-      let place : s ≡ (x.0 ++ q) ++ b ∷ v = joined s x.0 u q (b ∷ v) x.1 fault.place in
-      let (c, z, m) = fault.front in (
+      let (q, b, v, fault, why) = (second a x.0 x.2).right.faults u n w us h in (
         x.0 ++ q,
         b,
         v,
         record {
-          place = place;
+          place = joined s x.0 u q (b ∷ v) x.1 fault.place;
           left = fault.left;
-          front = front_after a x.0 q z c x.2 m;
+          front = inr (a, x.0, q, refl, x.2, fault.front);
           no_front = no_second a x.0 q b v x.2 (subst (λ l. Follows E l) fault.place x.3) fault.no_front;
         },
         inr (a, x.0, q, refl, x.2, why),
       )
   faults s more e n w vs h = absurd cc
   faults s (bad k x) e n w vs h =
-      let nk : k ≡ n = cc in
-      let wx : x ≡ w = cc in
       let e' : r s ≡ bad n w = cc in
-      let (p, b, v, fault, why) = first_right.faults s n w vs e' in
-      let (c, z, l) = fault.front in
-      (p, b, v, record { place = fault.place; left = fault.left; front = front_of c p z l; no_front = no_first s p b v n w e' fault }, inl why)
+      let (p, b, v, fault, why) = first_reads.right.faults s n w vs e' in
+      (p, b, v, record { place = fault.place; left = fault.left; front = inl fault.front; no_front = no_first s p b v n w e' fault }, inl why)
 
-  pub right_then : Right V F (Then L M) (ThenWhy L R Q) (λ s. after (r s) f)
-  right_then = record {
-    sound = λ s b u vs h. sound s (r s) refl b u vs h;
-    complete = complete;
-    goes_on = λ s vs h. goes_on s (r s) refl vs h;
-    faults = λ s n w vs h. faults s (r s) refl n w vs h;
+  -- no front goes on a text of both
+  ends_both : (b : B) (s : List S) (c : S) (x : List S) → Both b s → E' c → Fronts (s ++ c ∷ x) → ⊥
+  ends_both b s c x (a, t, u, cut, la, m) ec (inl y) =
+      past u (text_follows a b t u (c ∷ x) la m ec) (subst F (ap (λ l. l ++ c ∷ x) cut ∙ append_assoc t u (c ∷ x)) y)
+    where
+      past : (u : List S) → Follows E (u ++ c ∷ x) → F (t ++ (u ++ c ∷ x)) → ⊥
+      past [] fe y = first_reads.fronts.ends a t c x la fe y
+      past (d ∷ u) fe y = first_reads.fronts.ends a t d (u ++ c ∷ x) la fe y
+  ends_both b s c x (a, t, u, cut, la, m) ec (inr (d, p, y, other, ld, g)) =
+      let here : t ++ (u ++ c ∷ x) ≡ p ++ y = sym (append_assoc t u (c ∷ x)) ∙ (ap (λ l. l ++ c ∷ x) (sym cut) ∙ other) in
+      let (ad, same) = one_cut a d t p (u ++ c ∷ x) y la ld (text_follows a b t u (c ∷ x) la m ec) (front_follows d p y ld g) here in
+      (second a t la).fronts.ends b u c x m ec (subst (λ k. G k (u ++ c ∷ x)) (sym ad) (subst (λ l. G d l) (sym same) g))
+
+  pub then_in : ReadsIn V E' (ThenFront L F G) (Then L M) (ThenWhy L R Q) (λ s. after (r s) f)
+  then_in = record {
+    right = record {
+      sound = λ s b u vs h. sound s (r s) refl b u vs h;
+      complete = complete;
+      goes_on = λ s vs h. goes_on s (r s) refl vs h;
+      faults = λ s n w vs h. faults s (r s) refl n w vs h;
+    };
+    fronts = record {
+      reaches = λ b s l. let (a, t, u, cut, la, m) = l in inr (a, t, u, cut, la, (second a t la).fronts.reaches b u m);
+      ends = ends_both;
+    };
   }
+
+-- what begins a text of both, where each text of the first goes on
+module _ {S A B : Type 0} (L : A → List S → Type 0) (M : A → B → List S → Type 0) where
+  pub then_front : ((a : A) (t : List S) → L a t → (b : B) × (u : List S) × M a b u) → (p : List S) → ThenFront L (Front L) (λ a. Front (M a)) p → Front (Then L M) p
+  then_front goes p (inl (a, x, l)) =
+      let (b, u, m) = goes a (p ++ x) l in
+      (b, x ++ u, (a, p ++ x, u, sym (append_assoc p x u), l, m))
+  then_front goes p (inr (a, t, q, cut, l, (b, x, m))) =
+      (b, x, (a, t, q ++ x, ap (λ y. y ++ x) cut ∙ append_assoc t q x, l, m))
+
+  pub front_then : (p : List S) → Front (Then L M) p → ThenFront L (Front L) (λ a. Front (M a)) p
+  front_then p (b, x, (a, t, u, cut, l, m)) = elim (cut_two p x t u cut) [
+    | inl (y, at, rest) ↦ inl (a, y, subst (λ z. L a z) at l)
+    | inr (y, at, rest) ↦ inr (a, t, y, at, l, (b, x, subst (λ z. M a b z) rest m))
+  ]
+
+pub right_then : {S W A B : Type 0} (V E F : S → Type 0) (L : A → List S → Type 0) (R : List S → S → W → Type 0) (r : List S → Outcome S W A)
+    (M : A → B → List S → Type 0) (Q : A → List S → S → W → Type 0) (f : A → List S → Outcome S W B)
+    → Right V E L R r → ((a : A) (t : List S) → L a t → Right V F (M a) (Q a) (f a)) → ((a : A) (t : List S) → L a t → (b : B) × (u : List S) × M a b u)
+    → ((a : A) (b : B) (u v : List S) → M a b u → Follows F v → Follows E (u ++ v)) → Right V F (Then L M) (ThenWhy L R Q) (λ s. after (r s) f)
+right_then {S = S} {A = A} V E F L R r M Q f one_right second goes follows =
+    right_fronts V F (ThenFront L (Front L) (λ a. Front (M a))) (Front (Then L M)) (Then L M) (ThenWhy L R Q) (λ s. after (r s) f)
+    (then_front L M goes) (front_then L M)
+    (then_in V E F (Front L) L R r (λ a. Front (M a)) M Q f (reads_in V E L R r one_right) (λ a t l. reads_in V F (M a) (Q a) (f a) (second a t l)) (λ a t l. meets a)).right
+  where
+    meets : (a : A) → Meets E F (λ a. Front (M a)) M a
+    meets a = record {
+      begins = λ b q g. let (c, x, m) = g in subst (λ l. Follows E l) (append-nil ((b ∷ q) ++ x)) (follows a c ((b ∷ q) ++ x) [] m tt);
+      passes = λ b v m f. follows a b [] v m f;
+    }
 
 -- ---- a function of the values
 

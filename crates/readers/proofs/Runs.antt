@@ -229,6 +229,6 @@ module _ {S W A : Type 0} (V : S → Type 0) (L : A → List S → Type 0) (R : 
   right_count zero = right_done V [] (CountWhy L R zero)
   right_count (suc n) =
       right_then V Any Any L R r (λ v. Mapped (λ us. v ∷ us) (Count L n)) (λ v. CountWhy L R n) (λ v u. mapped (λ us. v ∷ us) (count r n u))
-      right (λ v. right_mapped V Any (λ us. v ∷ us) (Count L n) (CountWhy L R n) (count r n) (right_count n))
+      right (λ v t l. right_mapped V Any (λ us. v ∷ us) (Count L n) (CountWhy L R n) (count r n) (right_count n))
       (λ a t l. let (vs, s, m) = counts n in (a ∷ vs, s, (vs, refl, m)))
       (λ a b u v m f. follows-any (u ++ v))
