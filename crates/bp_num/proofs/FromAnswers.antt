@@ -1,5 +1,5 @@
 -- What an answer of `read_nat0` or `read_int` says of the readers over lists, for the readers above that call them.
-use Rattle.std.proofs.Common.{◌≡◌, ℕ, ℤ, pos, ◌+◌, ◌≤◌, List, [], ◌∷◌, ◌++◌, length, drop, refl}
+use Rattle.std.proofs.Common.{◌≡◌, ℕ, ℤ, pos, ◌+◌, ◌≤◌, List, [], ◌∷◌, ◌++◌, length, take, drop, refl, inl, inr}
 use Rattle.readers.specs.Reader.{whole, more, bad, Each, IsByte, Front, Mapped, IsProperFront}
 use Rattle.readers.proofs.Places.{only_whole, only_more, only_bad}
 use Rattle.bp_num.specs.declared.number.IntKind.{IntKind}
@@ -10,7 +10,7 @@ use Rattle.bp_num.specs.Reads.{IsNatFault, IsIntFault, IsNatRead, IsIntRead}
 use Rattle.bp_num.specs.NumberAt.{nat_at, int_at}
 use Rattle.bp_num.proofs.NatRight.{right_nat}
 use Rattle.bp_num.proofs.IntRight.{right_int}
-use Rattle.bp_num.proofs.Told.{nat_reason, int_reason}
+use Rattle.bp_num.proofs.OneReason.{nat_reason, int_reason}
 
 proper : (max : ℕ) (p : List ℕ) → IsProperFront (Mapped pos (IsNat max)) p → IsProperFront (IsNat max) p
 proper max p (z, b, x, (n, e, l)) = (n, b, x, l)
@@ -18,9 +18,16 @@ proper max p (z, b, x, (n, e, l)) = (n, b, x, l)
 no_front : (max : ℕ) (p : List ℕ) → (Front (Mapped pos (IsNat max)) p → ⊥) → Front (IsNat max) p → ⊥
 no_front max p none (n, x, l) = none (pos n, x, (n, refl, l))
 
+-- a nat0 is within its limit
+pub nat_limit : (max n : ℕ) (s : List ℕ) → IsNat max n s → n ≤ max
+nat_limit max n s (inl x) = x.1
+nat_limit max n s (inr (inl (t, e, l))) = l.0
+nat_limit max n s (inr (inr (inl (t, e, l)))) = l.0
+nat_limit max n s (inr (inr (inr (t, e, l)))) = l.0
+
 pub nat_done : (max : ℕ) (s : List ℕ) (z : ℤ) (k : ℕ) → IsNatRead max s (Done z k)
     → (n : ℕ) × (z ≡ pos n) × (n ≤ max) × (k ≤ length s) × (nat_at max s ≡ whole n (drop k s))
-nat_done max s z k (le, (n, e, l)) = (n, e, l.0, le, only_whole IsByte (IsNat max) (IsNatFault max) (nat_at max) (right_nat max) s n k (le, l))
+nat_done max s z k (le, (n, e, l)) = (n, e, nat_limit max n (take k s) l, le, only_whole IsByte (IsNat max) (IsNatFault max) (nat_at max) (right_nat max) s n k (le, l))
 
 pub nat_more : (max : ℕ) (s : List ℕ) → Each IsByte s → IsNatRead max s More → nat_at max s ≡ more
 nat_more max s vs front = only_more IsByte (IsNat max) (IsNatFault max) (nat_at max) (right_nat max) s vs (proper max s front)

@@ -8,3 +8,5 @@ pub mod Told
 pub mod Payloads
 pub mod Arms
 pub mod FromAnswers
+pub mod OneReason
+pub mod Growth

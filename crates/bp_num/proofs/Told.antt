@@ -1,5 +1,5 @@
 -- An answer says what stands in front, and no other answer does.
-use Rattle.std.proofs.Common.{◌≡◌, refl, sym, ap, ◌∙◌, subst, ℕ, ℤ, pos, ◌-◌, ◌≤◌, List, [], ◌∷◌, length, take, drop, inl, inr, arith}
+use Rattle.std.proofs.Common.{◌≡◌, refl, sym, ap, ◌∙◌, subst, ℕ, ℤ, pos, ◌-◌, ◌≤◌, List, length, take, drop, arith}
 use Rattle.std.proofs.lemmas.List.{length-drop}
 use Rattle.readers.specs.Reader.{Outcome, whole, more, bad, mapped, Each, IsByte, Any, Right, Mapped, IsFaultAt}
 use Rattle.readers.proofs.Readers.{right_mapped}
@@ -13,6 +13,7 @@ use Rattle.bp_num.specs.Reads.{IsNatFault, IsIntFault, IsNumRead, IsNatRead, IsI
 use Rattle.bp_num.specs.NumberAt.{answer, nat_at, int_at}
 use Rattle.bp_num.proofs.NatRight.{right_nat}
 use Rattle.bp_num.proofs.IntRight.{right_int}
+use Rattle.bp_num.proofs.OneReason.{nat_reason, int_reason}
 
 module _ (L : ℤ → List ℕ → Type 0) (R : List ℕ → ℕ → Why → Type 0) (r : List ℕ → Outcome ℕ Why ℤ) (right : Right IsByte Any L R r)
     (one_reason : (p : List ℕ) (b : ℕ) (v w : Why) → R p b v → R p b w → v ≡ w) where
@@ -44,20 +45,6 @@ module _ (L : ℤ → List ℕ → Type 0) (R : List ℕ → ℕ → Why → Typ
       let (n, sum, e) = only_bad IsByte L R r right s k w vs fault one_reason in
       let at : k ≡ length s - n = omega arith in
       ap (λ j. Bad j w) at ∙ ap (λ o. answer (length s) o) (sym e)
-
-pub nat_reason : (max : ℕ) (p : List ℕ) (b : ℕ) (v w : Why) → IsNatFault max p b v → IsNatFault max p b w → v ≡ w
-nat_reason max [] b v w (inl x) (inl y) = x.0 ∙ sym y.0
-nat_reason max [] b v w (inl x) (inr y) = absurd (omega (arith, x.1, y.1))
-nat_reason max [] b v w (inr x) (inl y) = absurd (omega (arith, x.1, y.1))
-nat_reason max [] b v w (inr x) (inr y) = x.0 ∙ sym y.0
-nat_reason max (c ∷ p) b v w x y = x.0 ∙ sym y.0
-
-pub int_reason : (p : List ℕ) (b : ℕ) (v w : Why) → IsIntFault p b v → IsIntFault p b w → v ≡ w
-int_reason [] b v w x y = x ∙ sym y
-int_reason (c ∷ p) b v w (inl x) (inl y) = x.0 ∙ sym y.0
-int_reason (c ∷ p) b v w (inl x) (inr y) = absurd (omega (arith, x.1, y.1))
-int_reason (c ∷ p) b v w (inr x) (inl y) = absurd (omega (arith, x.1, y.1))
-int_reason (c ∷ p) b v w (inr x) (inr y) = x.0 ∙ sym y.0
 
 -- the reader of a nat0, as a reader of integers
 nat_right : (max : ℕ) → Right IsByte Any (Mapped pos (IsNat max)) (IsNatFault max) (λ s. mapped pos (nat_at max s))

@@ -10,13 +10,21 @@ little_endian (suc k) n = n % 256 ∷ little_endian k (n / 256)
 
 -- ---- natural numbers
 
+-- the k bytes of a number of at most max, as a length of fixed width has them
+abbrev pub Payload : ℕ → ℕ → ℕ → List ℕ → Type 0
+Payload k max n s = (n ≤ max) × (n < 256 ^ k) × (s ≡ little_endian k n)
+
+-- a code, and the payload that it announces
+abbrev pub Coded : ℕ → (ℕ → List ℕ → Type 0) → ℕ → List ℕ → Type 0
+Coded code L n s = (t : List ℕ) × (s ≡ code ∷ t) × L n t
+
 -- the bytes s are a form of the nat0 n, which is at most max
 abbrev pub IsNat : ℕ → ℕ → List ℕ → Type 0
-IsNat max n s = (n ≤ max) ×
-    ((n < 128) × (s ≡ n ∷ [])
-    ⊎ (n < 256 ^ 2) × (s ≡ 254 ∷ little_endian 2 n)
-    ⊎ (n < 256 ^ 4) × (s ≡ 253 ∷ little_endian 4 n)
-    ⊎ (n < 256 ^ 8) × (s ≡ 252 ∷ little_endian 8 n))
+IsNat max n s =
+    (n < 128) × (n ≤ max) × (s ≡ n ∷ [])
+    ⊎ Coded 254 (Payload 2 max) n s
+    ⊎ Coded 253 (Payload 4 max) n s
+    ⊎ Coded 252 (Payload 8 max) n s
 
 -- the shortest form
 abbrev pub written_nat : ℕ → List ℕ

@@ -1,5 +1,5 @@
 -- What stands in front of some bytes: a number, the front of one, or a first faulty byte with its reason.
-use Rattle.std.specs.Prelude.{◌≡◌, ℕ, ℤ, pos, ◌+◌, ◌*◌, ◌<◌, ◌≤◌, List, [], ◌∷◌, ◌++◌, length, ◌⊎◌}
+use Rattle.std.specs.Prelude.{◌≡◌, ℕ, ℤ, pos, ◌+◌, ◌*◌, ◌<◌, ◌≤◌, nat_eq, if◌then◌else◌, List, [], ◌∷◌, ◌++◌, length, ◌⊎◌}
 use Rattle.readers.specs.Reader.{Mapped, Stands, IsProperFront, IsFaultAt}
 use Rattle.bp_num.specs.Forms.{IsNat, IsInt}
 use Rattle.bp_num.specs.declared.number.IntKind.{IntKind}
@@ -13,13 +13,22 @@ abbrev pub low_first : List ℕ → ℕ
 low_first [] = 0
 low_first (b ∷ s) = b + 256 * low_first s
 
+-- how many bytes follow a first byte of a nat0
+abbrev pub width_of : ℕ → ℕ
+width_of c = if nat_eq c 254 then 2 else if nat_eq c 253 then 4 else if nat_eq c 252 then 8 else 0
+
+-- the byte b, one of k, makes the low bytes so far pass the limit
+abbrev pub Passes : ℕ → ℕ → List ℕ → ℕ → Why → Type 0
+Passes k max p b w = (w ≡ Length) × (length p < k) × (max < low_first (p ++ b ∷ []))
+
 -- Why the byte b is at fault after the bytes p of a nat0: as a first byte it is no number and no code, or passes the limit itself;
--- later it makes the low bytes so far pass the limit.
+-- later it makes the low bytes so far pass the limit. No byte after the last one of a number is at fault.
 abbrev pub IsNatFault : ℕ → List ℕ → ℕ → Why → Type 0
 IsNatFault max [] b w = (w ≡ Code) × (128 ≤ b) ⊎ (w ≡ Length) × (b < 128)
-IsNatFault max (c ∷ p) b w = (w ≡ Length) × (max < low_first (p ++ b ∷ []))
+IsNatFault max (c ∷ p) b w = Passes (width_of c) max p b w
 
--- Why the byte b is at fault after the bytes p of an int: as a first byte; after `FF`; or as the last byte of eight.
+-- Why the byte b is at fault after the bytes p of an int: as a first byte; after `FF`; or as the last byte of eight. As a first
+-- byte each byte has the reason, since the reason counts only where the byte is at fault.
 abbrev pub IsIntFault : List ℕ → ℕ → Why → Type 0
 IsIntFault [] b w = w ≡ Code
 IsIntFault (c ∷ p) b w = (w ≡ Sign) × (c ≡ 255) × (p ≡ []) ⊎ (w ≡ Range) × (c ≡ 252) × (length p ≡ 7)
