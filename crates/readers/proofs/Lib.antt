@@ -1,4 +1,5 @@
 pub mod Readers
+pub mod Narrow
 pub mod Leaves
 pub mod Runs
 pub mod Limits
