@@ -1,13 +1,14 @@
 -- Readers of ends, of whole texts, and what an answer says by places.
-use Rattle.std.proofs.Common.{◌≡◌, refl, sym, ap, ◌∙◌, subst, Bool, true, false, ℕ, List, [], ◌∷◌, ◌++◌, length, inl, inr}
+use Rattle.std.proofs.Common.{◌≡◌, refl, sym, ap, ◌∙◌, subst, Some, None, Bool, true, false, ℕ, List, [], ◌∷◌, ◌++◌, length, inl, inr}
 use Rattle.std.proofs.lemmas.List.{append-nil}
-use Rattle.readers.specs.Reader.{Outcome, whole, more, bad, Each, Follows, Any, Never, Is, Front, FaultAt, Right, Plain, Done, good, refused, to_end, IsRefused, stop, at_end, Ended, ended}
-use Rattle.readers.proofs.Readers.{cut_two, snoc}
-use Rattle.readers.proofs.Leaves.{is_or, pick_true, pick_false, plain_then}
+use Rattle.readers.specs.Reader.{Outcome, whole, more, bad, mapped, Each, Follows, Any, Never, Is, Front, FaultAt, Right, Plain, Mapped, Done, One, OneWhy, one, leaf, kept, good, refused, to_end, IsRefused, stop, at_end, Ended, ended}
+use Rattle.readers.proofs.Readers.{cut_two, snoc, right_mapped}
+use Rattle.readers.proofs.Leaves.{is_or, pick_true, pick_false, plain_then, right_one}
+use Rattle.readers.proofs.Runs.{kept_is}
 
 -- ---- a value where nothing follows, or only symbols of a class
 
-module _ {S W A : Type 0} (ends : S → Bool) (w : W) (a : A) where
+module _ {S W A : Type 0} (V : S → Type 0) (ends : S → Bool) (w : W) (a : A) where
   none_longer : (b : S) → Front (Done a) (b ∷ []) → ⊥
   none_longer b (c, x, (e, n)) = absurd cc
 
@@ -49,7 +50,7 @@ module _ {S W A : Type 0} (ends : S → Bool) (w : W) (a : A) where
           let left : n ≡ length (b ∷ s) = cc in
           ([], b, s, record { place = refl; left = left; front = (a, [], (refl, refl)); no_front = none_longer b }, tt)
 
-  pub right_stop : Right Any (Is ends) (Done a) Plain (stop ends w a)
+  pub right_stop : Right V (Is ends) (Done a) Plain (stop ends w a)
   right_stop = record {
     sound = λ s c u vs h. stop_sound s c u h;
     complete = λ c t u l f. let (ca, tn) = l in ap (λ x. stop ends w a (x ++ u)) tn ∙ (stop_whole u f ∙ ap (λ x. whole x u) (sym ca));
@@ -57,7 +58,7 @@ module _ {S W A : Type 0} (ends : S → Bool) (w : W) (a : A) where
     faults = λ s n x vs h. stop_fault s n x h;
   }
 
-module _ {S W A : Type 0} (w : W) (a : A) where
+module _ {S W A : Type 0} (V : S → Type 0) (w : W) (a : A) where
   end_sound : (s : List S) (c : A) (u : List S) → at_end w a s ≡ whole c u → (t : List S) × (s ≡ t ++ u) × Done a c t × Follows Never u
   end_sound [] c u h = let ca : c ≡ a = cc in let un : u ≡ [] = cc in ([], sym un, (ca, refl), subst (λ l. Follows Never l) (sym un) tt)
   end_sound (b ∷ s) c u h = absurd cc
@@ -77,7 +78,7 @@ module _ {S W A : Type 0} (w : W) (a : A) where
       none : Front (Done a) (b ∷ []) → ⊥
       none (c, x, (e, n)) = absurd cc
 
-  pub right_end : Right {S = S} Any Never (Done a) Plain (at_end w a)
+  pub right_end : Right V Never (Done a) Plain (at_end w a)
   right_end = record {
     sound = λ s c u vs h. end_sound s c u h;
     complete = λ c t u l f. let (ca, tn) = l in ap (λ x. at_end w a (x ++ u)) tn ∙ (end_whole u f ∙ ap (λ x. whole x u) (sym ca));
@@ -85,12 +86,41 @@ module _ {S W A : Type 0} (w : W) (a : A) where
     faults = λ s n x vs h. end_fault s n x h;
   }
 
-pub right_ended : {S W A : Type 0} (w : W) (E : S → Type 0) (L : A → List S → Type 0) (r : List S → Outcome S W A) → Right Any E L Plain r → Right Any Never (Ended L) Plain (ended w r)
-right_ended {S = S} w E L r right = plain_then E Never L r (λ x. Done x) (at_end w) right (λ x. right_end {S = S} w x) (λ x t l. (x, [], (refl, refl))) meets
+pub right_ended : {S W A : Type 0} (V : S → Type 0) (w : W) (E : S → Type 0) (L : A → List S → Type 0) (r : List S → Outcome S W A)
+    → Right V E L Plain r → Right V Never (Ended L) Plain (ended w r)
+right_ended {S = S} V w E L r right =
+    plain_then V E Never L r (λ x. Done x) (at_end w) right (λ x. right_end V w x) (λ x t l. (x, [], (refl, refl))) meets
   where
     meets : {A : Type 0} (a b : A) (u v : List S) → Done a b u → Follows Never v → Follows E (u ++ v)
     meets a b u [] (e, un) f = rw un tt
     meets a b u (c ∷ v) (e, un) f = absurd f
+
+-- ---- a closing symbol, which ends a list
+
+abbrev pub Closing : {S A : Type 0} → (S → Bool) → List A → List S → Type 0
+Closing close vs s = Mapped (λ c. []) (One (kept close)) vs s
+
+abbrev pub closing : {S W A : Type 0} → (S → Bool) → W → List S → Outcome S W (List A)
+closing close w s = mapped (λ c. []) (one (kept close) w s)
+
+module _ {S W A : Type 0} (close : S → Bool) (w : W) where
+  pub closing_is : (c : S) (s : List S) → close c ≡ true → closing {A = A} close w (c ∷ s) ≡ whole [] s
+  closing_is c s e = ap (λ o. mapped (λ c. []) (leaf o (length (c ∷ s)) w s)) (pick_true (close c) (Some c) None e)
+
+  pub closing_not : (c : S) (s : List S) → close c ≡ false → closing {A = A} close w (c ∷ s) ≡ bad (length (c ∷ s)) w
+  closing_not c s e = ap (λ o. mapped (λ c. []) (leaf o (length (c ∷ s)) w s)) (pick_false (close c) (Some c) None e)
+
+  pub closes_by : (c : S) → close c ≡ true → Closing {A = A} close [] (c ∷ [])
+  closes_by c e = (c, refl, (c, refl, pick_true (close c) (Some c) None e))
+
+  pub closed_by : (vs : List A) (s : List S) → Closing close vs s → (c : S) × (close c ≡ true) × (s ≡ c ∷ []) × (vs ≡ [])
+  closed_by vs s (a, nil, (c, cut, k)) = (c, (kept_is close c a k).1, cut, nil)
+
+  pub right_closing : (V : S → Type 0) (closer : S) → close closer ≡ true
+      → Right V Any (Closing {A = A} close) (OneWhy (kept close) w) (closing close w)
+  right_closing V closer closes =
+      right_mapped V Any (λ c. []) (One (kept close)) (OneWhy (kept close) w) (one (kept close) w)
+      (right_one V (kept close) w closer closer (pick_true (close closer) (Some closer) None closes))
 
 -- ---- whole texts
 

@@ -27,11 +27,12 @@ some_or None = inr refl
 pub plain : {S W A : Type 0} (V E : S → Type 0) (L : A → List S → Type 0) (R : List S → S → W → Type 0) (r : List S → Outcome S W A) → Right V E L R r → Right V E L Plain r
 plain V E L R r right = right_same V E L L R Plain r (λ a s l. l) (λ a s l. l) (λ p b w y. tt) right
 
-pub plain_then : {S W A B : Type 0} (E F : S → Type 0) (L : A → List S → Type 0) (r : List S → Outcome S W A) (M : A → B → List S → Type 0) (f : A → List S → Outcome S W B)
-    → Right Any E L Plain r → ((a : A) → Right Any F (M a) Plain (f a)) → ((a : A) (t : List S) → L a t → (b : B) × (u : List S) × M a b u)
-    → ((a : A) (b : B) (u v : List S) → M a b u → Follows F v → Follows E (u ++ v)) → Right Any F (Then L M) Plain (λ s. after (r s) f)
-plain_then E F L r M f one_right second goes meets =
-    plain Any F (Then L M) _ (λ s. after (r s) f) (right_then Any E F L Plain r M (λ a. Plain) f one_right (λ a t l. second a) goes meets)
+pub plain_then : {S W A B : Type 0} (V E F : S → Type 0) (L : A → List S → Type 0) (r : List S → Outcome S W A) (M : A → B → List S → Type 0)
+    (f : A → List S → Outcome S W B) → Right V E L Plain r → ((a : A) → Right V F (M a) Plain (f a))
+    → ((a : A) (t : List S) → L a t → (b : B) × (u : List S) × M a b u)
+    → ((a : A) (b : B) (u v : List S) → M a b u → Follows F v → Follows E (u ++ v)) → Right V F (Then L M) Plain (λ s. after (r s) f)
+plain_then V E F L r M f one_right second goes meets =
+    plain V F (Then L M) _ (λ s. after (r s) f) (right_then V E F L Plain r M (λ a. Plain) f one_right (λ a t l. second a) goes meets)
 
 -- ---- one symbol
 
@@ -178,12 +179,13 @@ this_is c b u e = elim (is_or (nat_eq b c)) [ inl t ↦ grind arith | inr f ↦ 
 pub this_same : (c : ℕ) → this c c ≡ Some tt
 this_same c = pick_true (nat_eq c c) (Some tt) None (grind arith)
 
-pub right_fixed : {W : Type 0} (w : W) (cs : List ℕ) → Right Any Any (Fixed cs) Plain (fixed w cs)
-right_fixed w [] = right_same Any Any (Done tt) (Fixed []) Plain Plain (fixed w []) (λ a s d. d.1) (λ a s e. (refl, e)) (λ p b x y. tt) (right_done Any tt Plain)
-right_fixed w (c ∷ cs) =
-    right_same Any Any (Then (One (this c)) (λ u. Fixed cs)) (Fixed (c ∷ cs)) Plain Plain (fixed w (c ∷ cs)) into out (λ p b x y. tt)
-    (plain_then Any Any (One (this c)) (one (this c) w) (λ u. Fixed cs) (λ u t. fixed w cs t)
-    (plain_one Any (this c) w c tt (this_same c)) (λ u. right_fixed w cs) (λ u t l. (tt, cs, refl)) (λ a b u v m f. follows-any (u ++ v)))
+pub right_fixed : {W : Type 0} (V : ℕ → Type 0) (w : W) (cs : List ℕ) → Right V Any (Fixed cs) Plain (fixed w cs)
+right_fixed V w [] =
+    right_same V Any (Done tt) (Fixed []) Plain Plain (fixed w []) (λ a s d. d.1) (λ a s e. (refl, e)) (λ p b x y. tt) (right_done V tt Plain)
+right_fixed V w (c ∷ cs) =
+    right_same V Any (Then (One (this c)) (λ u. Fixed cs)) (Fixed (c ∷ cs)) Plain Plain (fixed w (c ∷ cs)) into out (λ p b x y. tt)
+    (plain_then V Any Any (One (this c)) (one (this c) w) (λ u. Fixed cs) (λ u t. fixed w cs t)
+    (plain_one V (this c) w c tt (this_same c)) (λ u. right_fixed V w cs) (λ u t l. (tt, cs, refl)) (λ a b u v m f. follows-any (u ++ v)))
   where
     into : (a : Unit {0}) (s : List ℕ) → Then (One (this c)) (λ u. Fixed cs) a s → Fixed (c ∷ cs) a s
     into a s (x, t, u, cut, (b, e, h), m) = let bc : b ≡ c = this_is c b x h in cc

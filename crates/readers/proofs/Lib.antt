@@ -3,6 +3,7 @@ pub mod Narrow
 pub mod Leaves
 pub mod Runs
 pub mod Limits
+pub mod Bounds
 pub mod Ends
 pub mod Separators
 pub mod Places

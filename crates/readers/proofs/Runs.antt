@@ -126,28 +126,28 @@ module _ {S W : Type 0} (V : S → Type 0) (C : S → Bool) (w : W) where
 
 -- ---- words
 
-module _ {S W : Type 0} (C : S → Bool) (w : W) (symbol : S) (of : C symbol ≡ true) where
-  pub kept_is : (b a : S) → kept C b ≡ Some a → (a ≡ b) × (C b ≡ true)
-  kept_is b a e = elim (is_or (C b)) [ inl c ↦ same c | inr c ↦ absurd (clash c) ]
-    where
-      same : C b ≡ true → (a ≡ b) × (C b ≡ true)
-      same c = let k : kept C b ≡ Some b = pick_true (C b) _ _ c in let ab : a ≡ b = cc in (ab, c)
+pub kept_is : {S : Type 0} (C : S → Bool) (b a : S) → kept C b ≡ Some a → (a ≡ b) × (C b ≡ true)
+kept_is C b a e = elim (is_or (C b)) [ inl c ↦ same c | inr c ↦ absurd (clash c) ]
+  where
+    same : C b ≡ true → (a ≡ b) × (C b ≡ true)
+    same c = let k : kept C b ≡ Some b = pick_true (C b) _ _ c in let ab : a ≡ b = cc in (ab, c)
 
-      clash : C b ≡ false → ⊥
-      clash c = let k : kept C b ≡ None = pick_false (C b) _ _ c in cc
+    clash : C b ≡ false → ⊥
+    clash c = let k : kept C b ≡ None = pick_false (C b) _ _ c in cc
 
-  pub right_word : (n : ℕ) → Right Any (IsNot C) (Word C n) Plain (word C w n)
+module _ {S W : Type 0} (V : S → Type 0) (C : S → Bool) (w : W) (symbol : S) (of : C symbol ≡ true) where
+  pub right_word : (n : ℕ) → Right V (IsNot C) (Word C n) Plain (word C w n)
   right_word n =
-      right_same Any (IsNot C) (Then (One (kept C)) (λ b. Mapped (λ t. b ∷ t) (Run C n))) (Word C n) Plain Plain (word C w n) into out (λ p b x y. tt)
-      (plain_then Any (IsNot C) (One (kept C)) (one (kept C) w) (λ b. Mapped (λ t. b ∷ t) (Run C n)) (λ b u. mapped (λ t. b ∷ t) (run C w n u))
-      (plain_one Any (kept C) w symbol symbol (pick_true (C symbol) _ _ of))
-      (λ b. right_mapped Any (IsNot C) (λ t. b ∷ t) (Run C n) Plain (run C w n) (plain_run Any C w n))
+      right_same V (IsNot C) (Then (One (kept C)) (λ b. Mapped (λ t. b ∷ t) (Run C n))) (Word C n) Plain Plain (word C w n) into out (λ p b x y. tt)
+      (plain_then V Any (IsNot C) (One (kept C)) (one (kept C) w) (λ b. Mapped (λ t. b ∷ t) (Run C n)) (λ b u. mapped (λ t. b ∷ t) (run C w n u))
+      (plain_one V (kept C) w symbol symbol (pick_true (C symbol) _ _ of))
+      (λ b. right_mapped V (IsNot C) (λ t. b ∷ t) (Run C n) Plain (run C w n) (plain_run V C w n))
       (λ b t l. (b ∷ [], [], ([], refl, (refl, omega arith, tt))))
       (λ a b u v m f. follows-any (u ++ v)))
     where
       into : (a s : List S) → Then (One (kept C)) (λ b. Mapped (λ t. b ∷ t) (Run C n)) a s → Word C n a s
       into a s (b, t, u, cut, (d, e, k), (r, ar, (ru, le, each))) =
-          let (bd, cd) = kept_is d b k in
+          let (bd, cd) = kept_is C d b k in
           let whole_text : s ≡ d ∷ u = cut ∙ ap (λ l. l ++ u) e in
           let same : a ≡ s = cc in
           rw whole_text (same ∙ whole_text, omega arith, omega arith, (cd, each))
