@@ -1,5 +1,5 @@
 -- Readers of one symbol, of a branch by the first symbol, and of a fixed text are right.
-use Rattle.std.proofs.Common.{◌≡◌, refl, sym, ap, ◌∙◌, subst, Option, Some, None, Bool, true, false, if◌then◌else◌, ℕ, nat_eq, List, [], ◌∷◌, ◌++◌, length, ◌⊎◌, inl, inr, arith}
+use Rattle.std.proofs.Common.{◌≡◌, refl, sym, ap, ◌∙◌, subst, Option, Some, None, Bool, true, false, if◌then◌else◌, ℕ, suc, nat_eq, ◌≤◌, List, [], ◌∷◌, ◌++◌, length, ◌⊎◌, inl, inr, arith}
 use Rattle.readers.specs.Reader.{Outcome, whole, more, bad, after, Each, Follows, Any, Is, IsNot, Front, FaultAt, Right, Plain, Then, One, OneWhy, one, leaf, Branch, branch, Begins, Fixed, fixed, this, Done}
 use Rattle.readers.proofs.Readers.{follows-any, right_then, right_same, right_done}
 
@@ -93,12 +93,26 @@ pub head_of : {S : Type 0} (b : S) (s p : List S) (d : S) (v x : List S) → b �
 head_of b s [] d v x e = (x, cc)
 head_of b s (c ∷ p) d v x e = ((p ++ d ∷ []) ++ x, cc)
 
-module _ {S W A : Type 0} (V E : S → Type 0) (C : S → Bool) (L M : A → List S → Type 0) (R : List S → S → W → Type 0) (r q : List S → Outcome S W A)
-    (left : Right V E L R r) (other : Right V E M R q) (is : Begins (Is C) L) (isnt : Begins (IsNot C) M) (some : Front (Branch L M) []) where
+-- what begins with these symbols begins with the first of them
+pub follows_short : {S : Type 0} (D : S → Type 0) (p : List S) (b : S) (v x : List S) → Follows D (p ++ b ∷ v) → Follows D (p ++ b ∷ x)
+follows_short D [] b v x f = f
+follows_short D (c ∷ p) b v x f = f
+
+-- the reason of the way that the first symbol goes
+abbrev pub BranchWhy : {S W : Type 0} → (S → Bool) → (List S → S → W → Type 0) → (List S → S → W → Type 0) → List S → S → W → Type 0
+BranchWhy C R Q p b w = (Follows (Is C) (p ++ b ∷ []) × R p b w) ⊎ (Follows (IsNot C) (p ++ b ∷ []) × Q p b w)
+
+module _ {S W A : Type 0} (V E : S → Type 0) (C : S → Bool) (L M : A → List S → Type 0) (R Q : List S → S → W → Type 0)
+    (r q : List S → Outcome S W A) (left : Right V E L R r) (other : Right V E M Q q) (is : Begins (Is C) L) (isnt : Begins (IsNot C) M)
+    (some : Front (Branch L M) []) where
   abbrev Either : A → List S → Type 0
   Either a s = Branch L M a s
 
-  class_of : (D : S → Type 0) (K : A → List S → Type 0) → Begins D K → (a : A) (b : S) (s p : List S) (d : S) (v x : List S) → b ∷ s ≡ p ++ d ∷ v → K a ((p ++ d ∷ []) ++ x) → D b
+  abbrev Why : List S → S → W → Type 0
+  Why p b w = BranchWhy C R Q p b w
+
+  class_of : (D : S → Type 0) (K : A → List S → Type 0) → Begins D K → (a : A) (b : S) (s p : List S) (d : S) (v x : List S)
+      → b ∷ s ≡ p ++ d ∷ v → K a ((p ++ d ∷ []) ++ x) → D b
   class_of D K begins a b s p d v x e k =
       let (z, same) = head_of b s p d v x e in
       let (c, t, cut, dc) = begins a (b ∷ z) (subst (λ l. K a l) same k) in
@@ -127,39 +141,67 @@ module _ {S W A : Type 0} (V E : S → Type 0) (C : S → Bool) (L M : A → Lis
     | inr c ↦ let (a, x, l) = other.goes_on (b ∷ s) vs (sym (pick_false (C b) (r (b ∷ s)) (q (b ∷ s)) c) ∙ h) in (a, x, inr l)
   ]
 
-  branch_faults : (s : List S) (n : ℕ) (w : W) → Each V s → branch C r q s ≡ bad n w → (p : List S) × (b : S) × (v : List S) × FaultAt Either s p b v n × R p b w
+  -- the first symbol of those up to a fault
+  first_of : (D : S → Type 0) (b : S) (s p : List S) (d : S) (v : List S) → b ∷ s ≡ p ++ d ∷ v → D b → Follows D (p ++ d ∷ [])
+  first_of D b s p d v e f = follows_short D p d v [] (subst (λ l. Follows D l) e f)
+
+  branch_faults : (s : List S) (n : ℕ) (w : W) → Each V s → branch C r q s ≡ bad n w
+      → (p : List S) × (b : S) × (v : List S) × FaultAt Either s p b v n × Why p b w
   branch_faults [] n w vs h = absurd cc
   branch_faults (b ∷ s) n w vs h = elim (is_or (C b)) [
     | inl c ↦ in_left c (left.faults (b ∷ s) n w vs (sym (pick_true (C b) (r (b ∷ s)) (q (b ∷ s)) c) ∙ h))
     | inr c ↦ in_other c (other.faults (b ∷ s) n w vs (sym (pick_false (C b) (r (b ∷ s)) (q (b ∷ s)) c) ∙ h))
   ]
     where
-      in_left : C b ≡ true → (p : List S) × (d : S) × (v : List S) × FaultAt L (b ∷ s) p d v n × R p d w → (p : List S) × (d : S) × (v : List S) × FaultAt Either (b ∷ s) p d v n × R p d w
+      in_left : C b ≡ true → (p : List S) × (d : S) × (v : List S) × FaultAt L (b ∷ s) p d v n × R p d w
+          → (p : List S) × (d : S) × (v : List S) × FaultAt Either (b ∷ s) p d v n × Why p d w
       in_left c (p, d, v, fault, why) =
           let (a, x, l) = fault.front in
-          (p, d, v, record { place = fault.place; left = fault.left; front = (a, x, inl l); no_front = none }, why)
+          let begins : Follows (Is C) (p ++ d ∷ []) = first_of (Is C) b s p d v fault.place c in
+          (p, d, v, record { place = fault.place; left = fault.left; front = (a, x, inl l); no_front = none }, inl (begins, why))
         where
           none : Front Either (p ++ d ∷ []) → ⊥
           none (a, x, inl l) = fault.no_front (a, x, l)
           none (a, x, inr m) = not_both (C b) c (class_of (IsNot C) M isnt a b s p d v x fault.place m)
 
-      in_other : C b ≡ false → (p : List S) × (d : S) × (v : List S) × FaultAt M (b ∷ s) p d v n × R p d w → (p : List S) × (d : S) × (v : List S) × FaultAt Either (b ∷ s) p d v n × R p d w
+      in_other : C b ≡ false → (p : List S) × (d : S) × (v : List S) × FaultAt M (b ∷ s) p d v n × Q p d w
+          → (p : List S) × (d : S) × (v : List S) × FaultAt Either (b ∷ s) p d v n × Why p d w
       in_other c (p, d, v, fault, why) =
           let (a, x, l) = fault.front in
-          (p, d, v, record { place = fault.place; left = fault.left; front = (a, x, inr l); no_front = none }, why)
+          let begins : Follows (IsNot C) (p ++ d ∷ []) = first_of (IsNot C) b s p d v fault.place c in
+          (p, d, v, record { place = fault.place; left = fault.left; front = (a, x, inr l); no_front = none }, inr (begins, why))
         where
           none : Front Either (p ++ d ∷ []) → ⊥
           none (a, x, inl l) = not_both (C b) (class_of (Is C) L is a b s p d v x fault.place l) c
           none (a, x, inr m) = fault.no_front (a, x, m)
 
-  pub right_branch : Right V E (Branch L M) R (branch C r q)
-  right_branch = record { sound = branch_sound; complete = branch_complete; goes_on = branch_goes_on; faults = branch_faults }
+  pub right_either : Right V E (Branch L M) (BranchWhy C R Q) (branch C r q)
+  right_either = record { sound = branch_sound; complete = branch_complete; goes_on = branch_goes_on; faults = branch_faults }
+
+-- where the reasons are the same
+pub right_branch : {S W A : Type 0} (V E : S → Type 0) (C : S → Bool) (L M : A → List S → Type 0) (R : List S → S → W → Type 0)
+    (r q : List S → Outcome S W A) → Right V E L R r → Right V E M R q → Begins (Is C) L → Begins (IsNot C) M → Front (Branch L M) []
+    → Right V E (Branch L M) R (branch C r q)
+right_branch {S = S} {W = W} V E C L M R r q left other is isnt some =
+    right_same V E (Branch L M) (Branch L M) (BranchWhy C R R) R (branch C r q) (λ a s l. l) (λ a s l. l) why
+    (right_either V E C L M R R r q left other is isnt some)
+  where
+    why : (p : List S) (b : S) (w : W) → BranchWhy C R R p b w → R p b w
+    why p b w (inl y) = y.1
+    why p b w (inr y) = y.1
 
 -- what the texts of composed languages begin with
 pub then_begins : {S A B : Type 0} (C : S → Type 0) (L : A → List S → Type 0) (M : A → B → List S → Type 0) → Begins C L → Begins C (Then L M)
 then_begins C L M begins b s (a, t, u, cut, l, m) =
     let (c, w, e, k) = begins a t l in
     (c, w ++ u, cut ∙ ap (λ x. x ++ u) e, k)
+
+pub begins_wider : {S A : Type 0} {C D : S → Type 0} {L : A → List S → Type 0} → ((b : S) → C b → D b) → Begins C L → Begins D L
+begins_wider wider begins a s l = let (b, t, cut, c) = begins a s l in (b, t, cut, wider b c)
+
+-- such a text is not empty
+pub begins_some : {S A : Type 0} {C : S → Type 0} {L : A → List S → Type 0} → Begins C L → (a : A) (s : List S) → L a s → 1 ≤ length s
+begins_some begins a s l = let (b, t, cut, c) = begins a s l in let lens : length s ≡ suc (length t) = ap length cut in omega arith
 
 pub one_begins : {S A : Type 0} (C : S → Type 0) (h : S → Option A) → ((b : S) (a : A) → h b ≡ Some a → C b) → Begins C (One h)
 one_begins C h class a s (b, cut, e) = (b, [], cut, class b a e)

@@ -6,6 +6,7 @@ pub mod Limits
 pub mod Bounds
 pub mod Ends
 pub mod Separators
+pub mod Until
 pub mod Places
 pub mod ReadLines
 pub mod Fronts

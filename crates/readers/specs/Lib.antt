@@ -1,3 +1,4 @@
 pub mod Reader
+pub mod Until
 pub mod Lines
 pub mod Keys
