@@ -7,6 +7,7 @@ pub mod Bounds
 pub mod Ends
 pub mod Separators
 pub mod Until
+pub mod Loops
 pub mod Places
 pub mod ReadLines
 pub mod Fronts

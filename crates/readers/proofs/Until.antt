@@ -13,7 +13,7 @@ use Rattle.readers.proofs.Ends.{Closing, closing, closing_is, closing_not, close
 module _ {S W A : Type 0} (V E : S → Type 0) (close : S → Bool) (w : W) (L : A → List S → Type 0) (R : List S → S → W → Type 0)
     (r : List S → Outcome S W A) (right : Right V E L R r) (begins : Begins (λ c. IsNot close c × E c) L) where
   -- a value leaves fewer symbols than there were
-  leaves_fewer : (s : List S) (a : A) (u : List S) → Each V s → r s ≡ whole a u → (length u < length s) × Each V u
+  pub leaves_fewer : (s : List S) (a : A) (u : List S) → Each V s → r s ≡ whole a u → (length u < length s) × Each V u
   leaves_fewer s a u vs e =
       let (t, cut, l, f) = right.sound s a u vs e in
       let lens : length s ≡ length t + length u = ap length cut ∙ length-append t u in
