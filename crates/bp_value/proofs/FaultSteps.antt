@@ -10,9 +10,9 @@ use Rattle.std.proofs.lemmas.List.Elements.{All-get_or, All-nil, All-cons, All-h
 use Rattle.bp_value.specs.declared.fault.ShapeFault.{ShapeFault}
 use Rattle.bp_value.specs.declared.fault.ShapeFault.TheVariants.{TooDeep, EmptySum, ShortTuple, EmptyFields, TooMany, BadName, SameName, TagClash}
 use Rattle.bp_value.specs.Form.{Form, Parts, tuple, named_parts, cases}
-use Rattle.bp_value.specs.Names.{IsName, IsFirstBad, IsDistinct, IsFirstRepeat}
+use Rattle.bp_value.specs.Names.{IsShapeName, IsFirstBadName, IsDistinct, IsFirstRepeat}
 use Rattle.bp_value.proofs.Good.{root}
-use Rattle.bp_value.specs.Faults.{nodes, part_nodes, case_nodes, member_count, names, tags, IsTuple, IsRecord, IsVariant, HasFault, number, IsFaultless, IsFaultOf, IsFirstIn, Tells, TellsNode, TellsCount, TellsNames, IsFaultOfNames, part_names}
+use Rattle.bp_value.specs.Faults.{nodes, part_nodes, case_nodes, member_count, names, tags, IsTuple, IsRecord, IsVariant, HasFault, number, IsFaultless, IsFaultOf, IsFirstIn, TellsNodes, TellsNode, TellsCount, TellsNames, IsFaultOfNames, part_names}
 
 pub all_at : {A : Type 0} (P : A → Type 0) (xs : List A) (i : ℕ) (x : A) → All P xs → slice_get xs i ≡ Some x → P x
 all_at P xs i x all e = subst P (get_or_from_slice_get xs i x x e) (All-get_or P xs i x (slice_get_within xs i x e) all)
@@ -40,14 +40,14 @@ most (TagClash first second) = omega arith
 -- no fault has a number below k
 module _ (k d : ℕ) (f : Form) (deep : d ≤ 64)
     (cases_there : 2 < k → IsVariant f → 0 < member_count f) (parts_there : 3 < k → IsTuple f → 1 < member_count f) (fields_there : 4 < k → IsRecord f → 0 < member_count f)
-    (few : 5 < k → member_count f ≤ 256) (named : 6 < k → All IsName (names f)) (other_names : 7 < k → IsDistinct (names f)) (other_tags : 8 < k → IsDistinct (tags f)) where
+    (few : 5 < k → member_count f ≤ 256) (named : 6 < k → All IsShapeName (names f)) (other_names : 7 < k → IsDistinct (names f)) (other_tags : 8 < k → IsDistinct (tags f)) where
   clean : (y : ShapeFault) → number y < k → HasFault d f y → ⊥
   clean (TooDeep depth) lt h = let a : 64 < d = h.1 in omega arith
   clean EmptySum lt h = let a : 0 < member_count f = cases_there lt h.0 in let b : member_count f ≡ 0 = h.1 in omega arith
   clean (ShortTuple count) lt h = let a : 1 < member_count f = parts_there lt h.0 in let b : count ≡ member_count f = h.1 in let c : count < 2 = h.2 in omega arith
   clean EmptyFields lt h = let a : 0 < member_count f = fields_there lt h.0 in let b : member_count f ≡ 0 = h.1 in omega arith
   clean (TooMany count) lt h = let a : member_count f ≤ 256 = few lt in let b : count ≡ member_count f = h.0 in let c : 256 < count = h.1 in omega arith
-  clean (BadName place) lt h = h.bad (all_at IsName (names f) place h.name (named lt) h.stands)
+  clean (BadName place) lt h = h.bad (all_at IsShapeName (names f) place h.name (named lt) h.stands)
   clean (SameName first second) lt h = other_names lt first second h.before h.within h.same
   clean (TagClash first second) lt h = other_tags lt first second h.before h.within h.same
 
@@ -85,14 +85,14 @@ module _ (d : ℕ) (f : Form) (deep : d ≤ 64) (cases_there : IsVariant f → 0
   )
 
   module _ (few : member_count f ≤ 256) where
-    pub bad_name : (p : ℕ) → IsFirstBad (names f) p → IsFaultOf (d, f) (BadName p)
+    pub bad_name : (p : ℕ) → IsFirstBadName (names f) p → IsFaultOf (d, f) (BadName p)
     bad_name p bad = (
       bad,
       clean 6 d f deep (λ l. cases_there) (λ l. parts_there) (λ l. fields_there)
           (λ l. few) (λ l. absurd (omega arith)) (λ l. absurd (omega arith)) (λ l. absurd (omega arith)),
     )
 
-    module _ (named : All IsName (names f)) where
+    module _ (named : All IsShapeName (names f)) where
       pub same_name : (i j : ℕ) → IsFirstRepeat (names f) i j → IsFaultOf (d, f) (SameName i j)
       same_name i j same = (
         same,
@@ -123,8 +123,8 @@ taken (suc n) i [] lt = refl
 taken (suc n) zero (x ∷ xs) lt = refl
 taken (suc n) (suc i) (x ∷ xs) lt = taken n i xs (omega arith)
 
-first_bad_one : (ns : List (List ℕ)) (p q : ℕ) → IsFirstBad ns p → IsFirstBad ns q → p < q → ⊥
-first_bad_one ns p q a b lt = a.bad (all_at IsName (take q ns) p a.name b.good_before (taken q p ns lt ∙ a.stands))
+first_bad_one : (ns : List (List ℕ)) (p q : ℕ) → IsFirstBadName ns p → IsFirstBadName ns q → p < q → ⊥
+first_bad_one ns p q a b lt = a.bad (all_at IsShapeName (take q ns) p a.name b.good_before (taken q p ns lt ∙ a.stands))
 
 first_repeat_second : {A : Type 0} (xs : List A) (i j k l : ℕ) → IsFirstRepeat xs i j → IsFirstRepeat xs k l → j ≡ l
 first_repeat_second xs i j k l a b = elim (cases_order j l) [
@@ -138,7 +138,7 @@ first_repeat_first xs i j k l a b e = elim (cases_order i k) [
   | inr h ↦ elim h [ inl lt ↦ absurd (b.least_first i lt (a.same ∙ ap (slice_get xs) e)) | inr lt ↦ absurd (a.least_first k lt (b.same ∙ ap (slice_get xs) (sym e))) ]
 ]
 
-first_bad_same : (ns : List (List ℕ)) (p q : ℕ) → IsFirstBad ns p → IsFirstBad ns q → p ≡ q
+first_bad_same : (ns : List (List ℕ)) (p q : ℕ) → IsFirstBadName ns p → IsFirstBadName ns q → p ≡ q
 first_bad_same ns p q a b = elim (cases_order p q) [
   | inl e ↦ e
   | inr h ↦ elim h [ inl lt ↦ absurd (first_bad_one ns p q a b lt) | inr lt ↦ absurd (first_bad_one ns q p b a lt) ]
@@ -186,15 +186,15 @@ not_both (n ∷ ns) x all (inr h) = not_both ns x (All-tail IsFaultless n ns all
 
 -- ---- what an answer tells
 
-pub tells_good : (ns : List (ℕ × Form)) (r : Result (Unit {0}) ShapeFault) → Tells ns r → (IsOk r ↔ All IsFaultless ns)
+pub tells_good : (ns : List (ℕ × Form)) (r : Result (Unit {0}) ShapeFault) → TellsNodes ns r → (IsOk r ↔ All IsFaultless ns)
 tells_good ns (Ok u) h = (λ t. h, λ all. refl)
 tells_good ns (Err x) h = (λ t. absurd cc, λ all. absurd (not_both ns x all h))
 
-pub tells_fault : (ns : List (ℕ × Form)) (r : Result (Unit {0}) ShapeFault) → Tells ns r → (x : ShapeFault) → ((r ≡ Err x) ↔ IsFirstIn ns x)
+pub tells_fault : (ns : List (ℕ × Form)) (r : Result (Unit {0}) ShapeFault) → TellsNodes ns r → (x : ShapeFault) → ((r ≡ Err x) ↔ IsFirstIn ns x)
 tells_fault ns (Ok u) h x = (λ e. absurd cc, λ f. absurd (not_both ns x h f))
 tells_fault ns (Err y) h x = (λ e. let same : y ≡ x = cc in subst (IsFirstIn ns) same h, λ f. ap Err (one_first ns y x h f))
 
-pub node_tells : (n : ℕ × Form) (ns : List (ℕ × Form)) (r : Result (Unit {0}) ShapeFault) → IsFaultless n → Tells ns r → Tells (n ∷ ns) r
+pub node_tells : (n : ℕ × Form) (ns : List (ℕ × Form)) (r : Result (Unit {0}) ShapeFault) → IsFaultless n → TellsNodes ns r → TellsNodes (n ∷ ns) r
 node_tells n ns (Ok u) less h = All-cons IsFaultless n ns less h
 node_tells n ns (Err x) less h = inr (less, h)
 
@@ -265,7 +265,7 @@ cases_past d (suc i) (c ∷ cs) h = cases_past d i cs (omega arith)
 pub tuple_tells : (d n : ℕ) (fs : Parts) (r : Result (Unit {0}) ShapeFault) → d ≤ 64 → n ≡ length (part_names fs) → 2 ≤ n → TellsCount n r → TellsNode (d, tuple fs) r
 tuple_tells d n fs (Ok u) deep e two few =
     faultless d (tuple fs) deep (λ v. absurd v) (λ t. let two : 2 ≤ n = two in omega arith) (λ r. absurd r)
-    (let few : n ≤ 256 = few in omega arith) (All-nil IsName) none_distinct none_distinct
+    (let few : n ≤ 256 = few in omega arith) (All-nil IsShapeName) none_distinct none_distinct
 tuple_tells d n fs (Err x) deep e two many =
     rw many.1 (too_many d (tuple fs) deep (λ v. absurd v) (λ t. let two : 2 ≤ n = two in omega arith) (λ r. absurd r) n e many.0)
 
@@ -289,14 +289,14 @@ module _ (d : ℕ) (f : Form) (deep : d ≤ 64) (some : 0 < member_count f) (oth
     named_tells (Ok u) other_tags h = faultless d f deep (λ v. some) (λ t. absurd (other t)) (λ r. some) few h.0 h.1 other_tags
     named_tells (Err x) other_tags h = names_fault x h
 
-    pub tags_fault : (i j : ℕ) → All IsName (names f) × IsDistinct (names f) → IsFirstRepeat (tags f) i j → IsFaultOf (d, f) (TagClash i j)
+    pub tags_fault : (i j : ℕ) → All IsShapeName (names f) × IsDistinct (names f) → IsFirstRepeat (tags f) i j → IsFaultOf (d, f) (TagClash i j)
     tags_fault i j h clash = tag_clash d f deep (λ v. some) (λ t. absurd (other t)) (λ r. some) few h.0 h.1 i j clash
 
 -- a node without members
 pub bare_node : (d : ℕ) (f : Form) → d ≤ 64 → member_count f ≡ 0 → (IsVariant f → ⊥) → (IsTuple f → ⊥) → (IsRecord f → ⊥) → names f ≡ [] → tags f ≡ [] → IsFaultless (d, f)
 bare_node d f deep none variant short named_ no_names no_tags =
     faultless d f deep (λ v. absurd (variant v)) (λ t. absurd (short t)) (λ r. absurd (named_ r)) (omega arith)
-    (rw no_names (All-nil IsName)) (rw no_names none_distinct) (rw no_tags none_distinct)
+    (rw no_names (All-nil IsShapeName)) (rw no_names none_distinct) (rw no_tags none_distinct)
 
 -- a list that is not empty has a length
 pub there : (n k : ℕ) (b : Bool) → b ≡ eqb n 0 → b ≡ false → k ≡ n → 0 < k

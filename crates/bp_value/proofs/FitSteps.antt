@@ -48,28 +48,28 @@ above P xs n m e lt = (λ t. absurd (let le : n ≤ m = leb-true n m t in omega 
 
 -- ---- S-expressions
 
-pub out-atom : (t : List ℕ) → out-Sexp (sx.Atom t) ≡ sexp_layer.Atom t
-out-atom t = search (rules, the_lemmas)
+pub out_atom : (t : List ℕ) → out-Sexp (sx.Atom t) ≡ sexp_layer.Atom t
+out_atom t = search (rules, the_lemmas)
 
-pub out-list : (ss : List Sexp) → out-Sexp (sx.List ss) ≡ sexp_layer.List ss
-out-list ss = search (rules, the_lemmas)
+pub out_list : (ss : List Sexp) → out-Sexp (sx.List ss) ≡ sexp_layer.List ss
+out_list ss = search (rules, the_lemmas)
 
 pub atom_is : (t u : List ℕ) → sx.Atom t ≡ sx.Atom u → t ≡ u
-atom_is t u e = let same : sexp_layer.Atom t ≡ sexp_layer.Atom u = sym (out-atom t) ∙ ap out-Sexp e ∙ out-atom u in cc
+atom_is t u e = let same : sexp_layer.Atom t ≡ sexp_layer.Atom u = sym (out_atom t) ∙ ap out-Sexp e ∙ out_atom u in cc
 
 pub list_is : (ss us : List Sexp) → sx.List ss ≡ sx.List us → ss ≡ us
-list_is ss us e = let same : sexp_layer.List ss ≡ sexp_layer.List us = sym (out-list ss) ∙ ap out-Sexp e ∙ out-list us in cc
+list_is ss us e = let same : sexp_layer.List ss ≡ sexp_layer.List us = sym (out_list ss) ∙ ap out-Sexp e ∙ out_list us in cc
 
 pub atom_no_list : (t : List ℕ) (ss : List Sexp) → sx.Atom t ≡ sx.List ss → ⊥
-atom_no_list t ss e = let same : sexp_layer.Atom t ≡ sexp_layer.List ss = sym (out-atom t) ∙ ap out-Sexp e ∙ out-list ss in cc
+atom_no_list t ss e = let same : sexp_layer.Atom t ≡ sexp_layer.List ss = sym (out_atom t) ∙ ap out-Sexp e ∙ out_list ss in cc
 
-pub sexp-none : (m d : ℕ) (s : Sexp) → d ≡ 0 → (IsTrue false ↔ FitsSexp m d s)
+pub sexp_none : (m d : ℕ) (s : Sexp) → d ≡ 0 → (IsTrue false ↔ FitsSexp m d s)
 unfolding FitsSexp
-sexp-none m d s e = rw e (λ t. absurd (true≢false (sym t)), λ p. absurd p)
+sexp_none m d s e = rw e (λ t. absurd (true≢false (sym t)), λ p. absurd p)
 
-pub sexp-atom : (m d e n : ℕ) (t : List ℕ) (s : Sexp) → d ≡ suc e → s ≡ sx.Atom t → n ≡ length t → (IsTrue (leb n m) ↔ FitsSexp m d s)
+pub sexp_atom : (m d e n : ℕ) (t : List ℕ) (s : Sexp) → d ≡ suc e → s ≡ sx.Atom t → n ≡ length t → (IsTrue (leb n m) ↔ FitsSexp m d s)
 unfolding FitsSexp
-sexp-atom m d e n t s deep is len = rw (deep, is, len) (
+sexp_atom m d e n t s deep is len = rw (deep, is, len) (
   λ b. inl (t, refl, leb-true (length t) m b),
   λ f. elim f [
     | inl x ↦ le-leb (length t) m (let le : length x.0 ≤ m = x.2 in let same : t ≡ x.0 = atom_is t x.0 x.1 in rw same le)
@@ -78,9 +78,9 @@ sexp-atom m d e n t s deep is len = rw (deep, is, len) (
 )
 
 module _ (m d e : ℕ) (ss : List Sexp) (s : Sexp) (b : Bool) (deep : d ≡ suc e) (is : s ≡ sx.List ss) where
-  pub sexp-list : (IsTrue b ↔ ((length ss ≤ m) × All (FitsSexp m e) ss)) → (IsTrue b ↔ FitsSexp m d s)
+  pub sexp_list : (IsTrue b ↔ ((length ss ≤ m) × All (FitsSexp m e) ss)) → (IsTrue b ↔ FitsSexp m d s)
   unfolding FitsSexp
-  sexp-list all = rw (deep, is) (
+  sexp_list all = rw (deep, is) (
     λ t. inr (ss, refl, all.0 t),
     λ f. elim f [
       | inl x ↦ absurd (atom_no_list x.0 ss (sym x.1))
@@ -90,38 +90,38 @@ module _ (m d e : ℕ) (ss : List Sexp) (s : Sexp) (b : Bool) (deep : d ≡ suc 
 
 -- ---- values
 
-pub out-absent : out-Value val.Absent ≡ layer.Absent
-out-absent = search (rules, value_lemmas)
+pub out_absent : out-Value val.Absent ≡ layer.Absent
+out_absent = search (rules, value_lemmas)
 
-pub out-present : (v : Value) → out-Value (val.Present v) ≡ layer.Present v
-out-present v = search (rules, value_lemmas)
+pub out_present : (v : Value) → out-Value (val.Present v) ≡ layer.Present v
+out_present v = search (rules, value_lemmas)
 
-pub out-items : (vs : List Value) → out-Value (val.Items vs) ≡ layer.Items vs
-out-items vs = search (rules, value_lemmas)
+pub out_items : (vs : List Value) → out-Value (val.Items vs) ≡ layer.Items vs
+out_items vs = search (rules, value_lemmas)
 
-pub out-parts : (vs : List Value) → out-Value (val.Parts vs) ≡ layer.Parts vs
-out-parts vs = search (rules, value_lemmas)
+pub out_parts : (vs : List Value) → out-Value (val.Parts vs) ≡ layer.Parts vs
+out_parts vs = search (rules, value_lemmas)
 
-pub out-case : (p : ℕ) (vs : List Value) → out-Value (val.Case p vs) ≡ layer.Case p vs
-out-case p vs = search (rules, value_lemmas)
+pub out_case : (p : ℕ) (vs : List Value) → out-Value (val.Case p vs) ≡ layer.Case p vs
+out_case p vs = search (rules, value_lemmas)
 
 pub present_is : (v w : Value) → val.Present v ≡ val.Present w → v ≡ w
-present_is v w e = let same : layer.Present v ≡ layer.Present w = sym (out-present v) ∙ ap out-Value e ∙ out-present w in cc
+present_is v w e = let same : layer.Present v ≡ layer.Present w = sym (out_present v) ∙ ap out-Value e ∙ out_present w in cc
 
 pub present_there : (v : Value) → val.Present v ≡ val.Absent → ⊥
-present_there v e = let same : layer.Present v ≡ layer.Absent = sym (out-present v) ∙ ap out-Value e ∙ out-absent in cc
+present_there v e = let same : layer.Present v ≡ layer.Absent = sym (out_present v) ∙ ap out-Value e ∙ out_absent in cc
 
 pub items_is : (vs ws : List Value) → val.Items vs ≡ val.Items ws → vs ≡ ws
-items_is vs ws e = let same : layer.Items vs ≡ layer.Items ws = sym (out-items vs) ∙ ap out-Value e ∙ out-items ws in cc
+items_is vs ws e = let same : layer.Items vs ≡ layer.Items ws = sym (out_items vs) ∙ ap out-Value e ∙ out_items ws in cc
 
 pub parts_is : (vs ws : List Value) → val.Parts vs ≡ val.Parts ws → vs ≡ ws
-parts_is vs ws e = let same : layer.Parts vs ≡ layer.Parts ws = sym (out-parts vs) ∙ ap out-Value e ∙ out-parts ws in cc
+parts_is vs ws e = let same : layer.Parts vs ≡ layer.Parts ws = sym (out_parts vs) ∙ ap out-Value e ∙ out_parts ws in cc
 
 pub case_place : (p q : ℕ) (vs ws : List Value) → val.Case p vs ≡ val.Case q ws → p ≡ q
-case_place p q vs ws e = let same : layer.Case p vs ≡ layer.Case q ws = sym (out-case p vs) ∙ ap out-Value e ∙ out-case q ws in cc
+case_place p q vs ws e = let same : layer.Case p vs ≡ layer.Case q ws = sym (out_case p vs) ∙ ap out-Value e ∙ out_case q ws in cc
 
 pub case_is : (p q : ℕ) (vs ws : List Value) → val.Case p vs ≡ val.Case q ws → vs ≡ ws
-case_is p q vs ws e = let same : layer.Case p vs ≡ layer.Case q ws = sym (out-case p vs) ∙ ap out-Value e ∙ out-case q ws in cc
+case_is p q vs ws e = let same : layer.Case p vs ≡ layer.Case q ws = sym (out_case p vs) ∙ ap out-Value e ∙ out_case q ws in cc
 
 module _ (P : Value → Type 0) (v : Value) where
   pub absent_fits : v ≡ val.Absent → (IsTrue true ↔ ((v ≡ val.Absent) ⊎ IsMade val.Present P v))

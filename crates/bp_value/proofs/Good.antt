@@ -7,7 +7,7 @@ use Rattle.std.proofs.lemmas.List.Elements.{All-nil, All-cons, All-head, All-tai
 use Rattle.std.proofs.lemmas.Option.{slice_get-get_or}
 use Rattle.bp_value.specs.declared.fault.ShapeFault.TheVariants.{TooDeep, EmptySum, ShortTuple, EmptyFields, TooMany, BadName, SameName, TagClash}
 use Rattle.bp_value.specs.Form.{Form, Parts, Cases, unit, bool, char, int, int32, int64, text, opt, listed, tuple, fields, sum, poly, sexp, part, case}
-use Rattle.bp_value.specs.Names.{IsName, IsNameStart, IsNameByte, IsFirstBad, IsDistinct, IsFirstRepeat}
+use Rattle.bp_value.specs.Names.{IsShapeName, IsNameStart, IsNameByte, IsFirstBadName, IsDistinct, IsFirstRepeat}
 use Rattle.bp_value.specs.Faults.{nodes, part_nodes, case_nodes, member_count, names, tags, IsTuple, IsRecord, IsVariant, IsFaultless, IsGood}
 
 abbrev pub AreGood : List (ℕ × Form) → Type 0
@@ -138,7 +138,7 @@ decided_bytes (b ∷ s) = elim (decided_byte b) [
   ]
 ]
 
-pub decided_name : (s : List ℕ) → IsName s ⊎ (IsName s → ⊥)
+pub decided_name : (s : List ℕ) → IsShapeName s ⊎ (IsShapeName s → ⊥)
 decided_name [] = inr (λ h. h)
 decided_name (b ∷ s) = elim (decided_start b) [
   | inr other ↦ inr (λ h. other h.0)
@@ -149,16 +149,16 @@ decided_name (b ∷ s) = elim (decided_start b) [
 ]
 
 -- where nothing is the first bad name, all are names
-module _ (ns : List (List ℕ)) (none : (p : ℕ) → IsFirstBad ns p → ⊥) where
-  names_below : (n : ℕ) → n ≤ length ns → All IsName (take n ns)
-  names_below zero in_list = All-nil IsName
+module _ (ns : List (List ℕ)) (none : (p : ℕ) → IsFirstBadName ns p → ⊥) where
+  names_below : (n : ℕ) → n ≤ length ns → All IsShapeName (take n ns)
+  names_below zero in_list = All-nil IsShapeName
   names_below (suc n) in_list = let before = names_below n (omega arith) in elim (decided_name (get_or ns n [])) [
-    | inl is ↦ rw (← add-one n) (All-more IsName ns n [] (omega arith) before is)
+    | inl is ↦ rw (← add-one n) (All-more IsShapeName ns n [] (omega arith) before is)
     | inr other ↦ absurd (none n (record { name = get_or ns n []; stands = slice_get-get_or ns n [] (omega arith); bad = other; good_before = before }))
   ]
 
-  pub all_names : All IsName ns
-  all_names = let e : take (length ns) ns ≡ ns = take_all (length ns) ns (omega arith) in subst (All IsName) e (names_below (length ns) (omega arith))
+  pub all_names : All IsShapeName ns
+  all_names = let e : take (length ns) ns ≡ ns = take_all (length ns) ns (omega arith) in subst (All IsShapeName) e (names_below (length ns) (omega arith))
 
 -- ---- at one node
 
@@ -178,7 +178,7 @@ module _ (d : ℕ) (f : Form) (less : IsFaultless (d, f)) where
   pub some_fields : IsRecord f → 0 < member_count f
   some_fields named = elim (cases_lt 0 (member_count f)) [ inl some ↦ some | inr none ↦ absurd (less EmptyFields (named, omega arith)) ]
 
-  pub good_names : All IsName (names f)
+  pub good_names : All IsShapeName (names f)
   good_names = all_names (names f) (λ p bad. less (BadName p) bad)
 
   pub distinct_names : IsDistinct (names f)

@@ -4,7 +4,7 @@ use Rattle.std.specs.List.{All}
 use Rattle.bp_value.specs.declared.fault.ShapeFault.{ShapeFault}
 use Rattle.bp_value.specs.declared.fault.ShapeFault.TheVariants.{TooDeep, EmptySum, ShortTuple, EmptyFields, TooMany, BadName, SameName, TagClash}
 use Rattle.bp_value.specs.Tags.{tag_of}
-use Rattle.bp_value.specs.Names.{IsName, IsFirstBad, IsDistinct, IsFirstRepeat}
+use Rattle.bp_value.specs.Names.{IsShapeName, IsFirstBadName, IsDistinct, IsFirstRepeat}
 use Rattle.bp_value.specs.Form.{Form, Parts, Cases, unit, bool, char, int, int32, int64, text, opt, listed, tuple, fields, sum, poly, sexp, end, part, end_cases, case}
 
 unfoldable mutual
@@ -80,7 +80,7 @@ HasFault d f EmptySum = IsVariant f × (member_count f ≡ 0)
 HasFault d f (ShortTuple count) = IsTuple f × (count ≡ member_count f) × (count < 2)
 HasFault d f EmptyFields = IsRecord f × (member_count f ≡ 0)
 HasFault d f (TooMany count) = (count ≡ member_count f) × (256 < count)
-HasFault d f (BadName place) = IsFirstBad (names f) place
+HasFault d f (BadName place) = IsFirstBadName (names f) place
 HasFault d f (SameName first second) = IsFirstRepeat (names f) first second
 HasFault d f (TagClash first second) = IsFirstRepeat (tags f) first second
 
@@ -119,9 +119,9 @@ abbrev pub TellsNode : ℕ × Form → Result (Unit {0}) ShapeFault → Type 0
 TellsNode node (Ok u) = IsFaultless node
 TellsNode node (Err x) = IsFaultOf node x
 
-abbrev pub Tells : List (ℕ × Form) → Result (Unit {0}) ShapeFault → Type 0
-Tells ns (Ok u) = All IsFaultless ns
-Tells ns (Err x) = IsFirstIn ns x
+abbrev pub TellsNodes : List (ℕ × Form) → Result (Unit {0}) ShapeFault → Type 0
+TellsNodes ns (Ok u) = All IsFaultless ns
+TellsNodes ns (Err x) = IsFirstIn ns x
 
 -- and of how many members there are, and of their names
 abbrev pub TellsCount : ℕ → Result (Unit {0}) ShapeFault → Type 0
@@ -129,10 +129,10 @@ TellsCount n (Ok u) = n ≤ 256
 TellsCount n (Err x) = (256 < n) × (x ≡ TooMany n)
 
 abbrev pub IsFaultOfNames : List (List ℕ) → ShapeFault → Type 0
-IsFaultOfNames ns (BadName place) = IsFirstBad ns place
-IsFaultOfNames ns (SameName first second) = All IsName ns × IsFirstRepeat ns first second
+IsFaultOfNames ns (BadName place) = IsFirstBadName ns place
+IsFaultOfNames ns (SameName first second) = All IsShapeName ns × IsFirstRepeat ns first second
 IsFaultOfNames ns _ = ⊥
 
 abbrev pub TellsNames : List (List ℕ) → Result (Unit {0}) ShapeFault → Type 0
-TellsNames ns (Ok u) = All IsName ns × IsDistinct ns
+TellsNames ns (Ok u) = All IsShapeName ns × IsDistinct ns
 TellsNames ns (Err x) = IsFaultOfNames ns x

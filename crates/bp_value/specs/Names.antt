@@ -11,16 +11,16 @@ abbrev pub IsNameByte : ℕ → Type 0
 IsNameByte b = IsNameStart b ⊎ (((48 ≤ b) × (b ≤ 57)) ⊎ (b ≡ 39))
 
 -- 1 to 64 bytes
-abbrev pub IsName : List ℕ → Type 0
-IsName [] = ⊥
-IsName (b ∷ rest) = IsNameStart b × (length rest < 64) × All IsNameByte rest
+abbrev pub IsShapeName : List ℕ → Type 0
+IsShapeName [] = ⊥
+IsShapeName (b ∷ rest) = IsNameStart b × (length rest < 64) × All IsNameByte rest
 
 -- the first name that is none
-pub record IsFirstBad (names : List (List ℕ)) (place : ℕ) : Type 0 where
+pub record IsFirstBadName (names : List (List ℕ)) (place : ℕ) : Type 0 where
   pub name : List ℕ
   pub stands : slice_get names place ≡ Some name
-  pub bad : IsName name → ⊥
-  pub good_before : All IsName (take place names)
+  pub bad : IsShapeName name → ⊥
+  pub good_before : All IsShapeName (take place names)
 
 -- no item stands at a later place too
 abbrev pub IsDistinct : {A : Type 0} → List A → Type 0

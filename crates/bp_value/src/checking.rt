@@ -6,7 +6,7 @@ ghost use Rattle.bp_value.specs.Form as form;
 ghost use Rattle.bp_value.specs.Tags.{tag_of};
 ghost use Rattle.bp_value.specs.Names.{IsDistinct, IsFirstRepeat};
 ghost use Rattle.bp_value.specs.Named.{names_of};
-ghost use Rattle.bp_value.specs.Faults.{nodes, part_nodes, case_nodes, IsGood, FirstFault, TellsNode, Tells, TellsCount, TellsNames};
+ghost use Rattle.bp_value.specs.Faults.{nodes, part_nodes, case_nodes, IsGood, FirstFault, TellsNode, TellsNodes, TellsCount, TellsNames};
 
 use crate::boxed::Boxed;
 use crate::fault::ShapeFault;
@@ -33,7 +33,7 @@ impl Shape {
 #[cycle(checks)]
 fn shape_check(shape: &Shape, depth: usize) -> Result<(), ShapeFault>
     requires { depth ≤ 65 }
-    ensures { Tells (nodes depth (form_of shape.now)) result }
+    ensures { TellsNodes (nodes depth (form_of shape.now)) result }
 {
     if depth > MAX_DEPTH {
         return Err(ShapeFault::TooDeep { depth });
@@ -71,7 +71,7 @@ fn shape_check(shape: &Shape, depth: usize) -> Result<(), ShapeFault>
 #[cycle(checks)]
 fn parts_check(shapes: &[Shape], depth: usize) -> Result<(), ShapeFault>
     requires { depth ≤ 65 }
-    ensures { Tells (part_nodes depth (parts (map form_of shapes.now))) result }
+    ensures { TellsNodes (part_nodes depth (parts (map form_of shapes.now))) result }
 {
     for shape in shapes {
         shape_check(shape, depth)?;
@@ -82,7 +82,7 @@ fn parts_check(shapes: &[Shape], depth: usize) -> Result<(), ShapeFault>
 #[cycle(checks)]
 fn fields_check(fields: &[Field], depth: usize) -> Result<(), ShapeFault>
     requires { depth ≤ 65 }
-    ensures { Tells (part_nodes depth (named_parts (map field_form fields.now))) result }
+    ensures { TellsNodes (part_nodes depth (named_parts (map field_form fields.now))) result }
 {
     for field in fields {
         shape_check(&field.shape, depth)?;
@@ -93,7 +93,7 @@ fn fields_check(fields: &[Field], depth: usize) -> Result<(), ShapeFault>
 #[cycle(checks)]
 fn cases_check(sum: &[Case], depth: usize) -> Result<(), ShapeFault>
     requires { depth ≤ 65 }
-    ensures { Tells (case_nodes depth (cases (map case_form sum.now))) result }
+    ensures { TellsNodes (case_nodes depth (cases (map case_form sum.now))) result }
 {
     for case in sum {
         parts_check(case.args.as_slice(), depth)?;
@@ -104,7 +104,7 @@ fn cases_check(sum: &[Case], depth: usize) -> Result<(), ShapeFault>
 #[cycle(checks)]
 fn arguments_check(poly: &[PolyCase], depth: usize) -> Result<(), ShapeFault>
     requires { depth ≤ 65 }
-    ensures { Tells (case_nodes depth (cases (map poly_form poly.now))) result }
+    ensures { TellsNodes (case_nodes depth (cases (map poly_form poly.now))) result }
 {
     for case in poly {
         argument_check(&case.arg, depth)?;
@@ -115,7 +115,7 @@ fn arguments_check(poly: &[PolyCase], depth: usize) -> Result<(), ShapeFault>
 #[cycle(checks)]
 fn argument_check(shape: &Option<Boxed<Shape>>, depth: usize) -> Result<(), ShapeFault>
     requires { depth ≤ 65 }
-    ensures { Tells (part_nodes depth (argument (option_map form_of shape.now))) result }
+    ensures { TellsNodes (part_nodes depth (argument (option_map form_of shape.now))) result }
 {
     match shape {
         None => Ok(()),

@@ -1,6 +1,6 @@
 ghost use Rattle.std.specs.Prelude.{◌≡◌, ◌↔◌, ◌<◌, ◌≢◌, ℕ, IsTrue, Some, map, length, slice_get, MatchOption};
 ghost use Rattle.std.specs.List.{All};
-ghost use Rattle.bp_value.specs.Names.{IsName, IsNameStart, IsNameByte, IsFirstBad, IsDistinct, IsFirstRepeat};
+ghost use Rattle.bp_value.specs.Names.{IsShapeName, IsNameStart, IsNameByte, IsFirstBadName, IsDistinct, IsFirstRepeat};
 ghost use Rattle.bp_value.specs.Named.{names_of};
 
 use crate::shape::{Case, Field, PolyCase};
@@ -40,7 +40,7 @@ impl<'a> Names<'a> {
 
     /// The place of the first name that is none.
     pub fn first_bad(&self) -> Option<usize>
-        ensures { MatchOption result (All IsName (names_of self.now)) (λ place. IsFirstBad (names_of self.now) place) }
+        ensures { MatchOption result (All IsShapeName (names_of self.now)) (λ place. IsFirstBadName (names_of self.now) place) }
     {
         for place in 0..self.len() {
             if !is_name(self.name(place)) {
@@ -103,7 +103,7 @@ fn poly_name(cases: &[PolyCase], place: usize) -> &[u8]
 
 /// A letter or `_`, then letters, digits, `_` or `'`.
 fn is_name(name: &[u8]) -> bool
-    ensures { IsTrue result ↔ IsName name.now }
+    ensures { IsTrue result ↔ IsShapeName name.now }
 {
     match name {
         [] => false,

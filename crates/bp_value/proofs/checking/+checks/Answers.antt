@@ -7,7 +7,7 @@ use Rattle.std.proofs.lemmas.Option.{slice_get-map, slice_get_read}
 use Rattle.std.proofs.lemmas.Result.{err_from_is_err_and}
 use Rattle.bp_value.specs.Form.{form_of, field_form, case_form, poly_form, unnamed, unit, bool, char, int, int32, int64, text, opt, listed, sexp}
 use Rattle.bp_value.specs.Faults.{nodes, part_nodes, case_nodes, IsFaultless}
-use Rattle.bp_value.proofs.Forms.{form-unit, form-bool, form-char, form-int, form-int32, form-int64, form-text, form-opt, form-listed, form-tuple, form-fields, form-sum, form-poly, form-sexp}
+use Rattle.bp_value.proofs.Forms.{form_of-Unit, form_of-Bool, form_of-Char, form_of-Int, form_of-Int32, form_of-Int64, form_of-Text, form_of-Opt, form_of-List, form_of-Tuple, form_of-Fields, form_of-Sum, form_of-Poly, form_of-Sexp}
 use Rattle.bp_value.proofs.FaultSteps.{parts_over, parts_on, parts_out, cases_over, cases_on, cases_out, bare_node, bare_good, node_tells, deep_first}
 use Rattle.bp_value.proofs.checking.+checks.Goals as goal
 
@@ -80,91 +80,91 @@ unfolding nodes part_nodes case_nodes
 shape_check-returns-in_err-tuple_check-in-Tuple t c =
     let p = err_from_is_err_and c.from_residual.result c.from_residual.ensures.1 in
     let fault = c.in_err-tuple_check-in-Tuple.ensures c.args.depth c.if-depth-gt-MAX_DEPTH.false in
-    rw (c.in-Tuple.is, form-tuple, p.1, p.2) (inl (rw c.as_slice.ensures at fault))
+    rw (c.in-Tuple.is, form_of-Tuple, p.1, p.2) (inl (rw c.as_slice.ensures at fault))
 
 pub shape_check-returns-in_err-record_check-in-Fields : goal.shape_check-returns-in_err-record_check-in-Fields
 unfolding nodes part_nodes case_nodes
 shape_check-returns-in_err-record_check-in-Fields t c =
     let p = err_from_is_err_and c.from_residual-in_err-record_check-in-Fields.result c.from_residual-in_err-record_check-in-Fields.ensures.1 in
     let fault = c.in_err-record_check-in-Fields.ensures c.args.depth c.if-depth-gt-MAX_DEPTH.false in
-    rw (c.in-Fields.is, form-fields, p.1, p.2) (inl (rw c.as_slice-in-Fields.ensures at fault))
+    rw (c.in-Fields.is, form_of-Fields, p.1, p.2) (inl (rw c.as_slice-in-Fields.ensures at fault))
 
 pub shape_check-returns-in_err-sum_check-in-Sum : goal.shape_check-returns-in_err-sum_check-in-Sum
 unfolding nodes part_nodes case_nodes
 shape_check-returns-in_err-sum_check-in-Sum t c =
     let p = err_from_is_err_and c.from_residual-in_err-sum_check-in-Sum.result c.from_residual-in_err-sum_check-in-Sum.ensures.1 in
     let fault = c.in_err-sum_check-in-Sum.ensures c.args.depth c.if-depth-gt-MAX_DEPTH.false in
-    rw (c.in-Sum.is, form-sum, p.1, p.2) (inl (rw c.as_slice-in-Sum.ensures at fault))
+    rw (c.in-Sum.is, form_of-Sum, p.1, p.2) (inl (rw c.as_slice-in-Sum.ensures at fault))
 
 pub shape_check-returns-in_err-poly_check-in-Poly : goal.shape_check-returns-in_err-poly_check-in-Poly
 unfolding nodes part_nodes case_nodes
 shape_check-returns-in_err-poly_check-in-Poly t c =
     let p = err_from_is_err_and c.from_residual-in_err-poly_check-in-Poly.result c.from_residual-in_err-poly_check-in-Poly.ensures.1 in
     let fault = c.in_err-poly_check-in-Poly.ensures c.args.depth c.if-depth-gt-MAX_DEPTH.false in
-    rw (c.in-Poly.is, form-poly, p.1, p.2) (inl (rw c.as_slice-in-Poly.ensures at fault))
+    rw (c.in-Poly.is, form_of-Poly, p.1, p.2) (inl (rw c.as_slice-in-Poly.ensures at fault))
 
 pub shape_check-returns-in-Unit : goal.shape_check-returns-in-Unit
 unfolding nodes part_nodes case_nodes
-shape_check-returns-in-Unit t c = rw (c.in-Unit.is, form-unit) (bare_good c.args.depth unit (bare_node c.args.depth unit c.if-depth-gt-MAX_DEPTH.false refl (λ v. v) (λ v. v) (λ v. v) refl refl))
+shape_check-returns-in-Unit t c = rw (c.in-Unit.is, form_of-Unit) (bare_good c.args.depth unit (bare_node c.args.depth unit c.if-depth-gt-MAX_DEPTH.false refl (λ v. v) (λ v. v) (λ v. v) refl refl))
 
 pub shape_check-returns-in-Bool : goal.shape_check-returns-in-Bool
 unfolding nodes part_nodes case_nodes
-shape_check-returns-in-Bool t c = rw (c.in-Bool.is, form-bool) (bare_good c.args.depth bool (bare_node c.args.depth bool c.if-depth-gt-MAX_DEPTH.false refl (λ v. v) (λ v. v) (λ v. v) refl refl))
+shape_check-returns-in-Bool t c = rw (c.in-Bool.is, form_of-Bool) (bare_good c.args.depth bool (bare_node c.args.depth bool c.if-depth-gt-MAX_DEPTH.false refl (λ v. v) (λ v. v) (λ v. v) refl refl))
 
 pub shape_check-returns-in-Char : goal.shape_check-returns-in-Char
 unfolding nodes part_nodes case_nodes
-shape_check-returns-in-Char t c = rw (c.in-Char.is, form-char) (bare_good c.args.depth char (bare_node c.args.depth char c.if-depth-gt-MAX_DEPTH.false refl (λ v. v) (λ v. v) (λ v. v) refl refl))
+shape_check-returns-in-Char t c = rw (c.in-Char.is, form_of-Char) (bare_good c.args.depth char (bare_node c.args.depth char c.if-depth-gt-MAX_DEPTH.false refl (λ v. v) (λ v. v) (λ v. v) refl refl))
 
 pub shape_check-returns-in-Int : goal.shape_check-returns-in-Int
 unfolding nodes part_nodes case_nodes
-shape_check-returns-in-Int t c = rw (c.in-Int.is, form-int) (bare_good c.args.depth int (bare_node c.args.depth int c.if-depth-gt-MAX_DEPTH.false refl (λ v. v) (λ v. v) (λ v. v) refl refl))
+shape_check-returns-in-Int t c = rw (c.in-Int.is, form_of-Int) (bare_good c.args.depth int (bare_node c.args.depth int c.if-depth-gt-MAX_DEPTH.false refl (λ v. v) (λ v. v) (λ v. v) refl refl))
 
 pub shape_check-returns-in-Int32 : goal.shape_check-returns-in-Int32
 unfolding nodes part_nodes case_nodes
-shape_check-returns-in-Int32 t c = rw (c.in-Int32.is, form-int32) (bare_good c.args.depth int32 (bare_node c.args.depth int32 c.if-depth-gt-MAX_DEPTH.false refl (λ v. v) (λ v. v) (λ v. v) refl refl))
+shape_check-returns-in-Int32 t c = rw (c.in-Int32.is, form_of-Int32) (bare_good c.args.depth int32 (bare_node c.args.depth int32 c.if-depth-gt-MAX_DEPTH.false refl (λ v. v) (λ v. v) (λ v. v) refl refl))
 
 pub shape_check-returns-in-Int64 : goal.shape_check-returns-in-Int64
 unfolding nodes part_nodes case_nodes
-shape_check-returns-in-Int64 t c = rw (c.in-Int64.is, form-int64) (bare_good c.args.depth int64 (bare_node c.args.depth int64 c.if-depth-gt-MAX_DEPTH.false refl (λ v. v) (λ v. v) (λ v. v) refl refl))
+shape_check-returns-in-Int64 t c = rw (c.in-Int64.is, form_of-Int64) (bare_good c.args.depth int64 (bare_node c.args.depth int64 c.if-depth-gt-MAX_DEPTH.false refl (λ v. v) (λ v. v) (λ v. v) refl refl))
 
 pub shape_check-returns-in-Text : goal.shape_check-returns-in-Text
 unfolding nodes part_nodes case_nodes
-shape_check-returns-in-Text t c = rw (c.in-Text.is, form-text) (bare_good c.args.depth text (bare_node c.args.depth text c.if-depth-gt-MAX_DEPTH.false refl (λ v. v) (λ v. v) (λ v. v) refl refl))
+shape_check-returns-in-Text t c = rw (c.in-Text.is, form_of-Text) (bare_good c.args.depth text (bare_node c.args.depth text c.if-depth-gt-MAX_DEPTH.false refl (λ v. v) (λ v. v) (λ v. v) refl refl))
 
 pub shape_check-returns-in-Opt : goal.shape_check-returns-in-Opt
 unfolding nodes part_nodes case_nodes
-shape_check-returns-in-Opt t c = rw (c.in-Opt.is, form-opt)
+shape_check-returns-in-Opt t c = rw (c.in-Opt.is, form_of-Opt)
     (node_tells _ _ _ (bare_node c.args.depth (opt (form_of c.in-Opt.item)) c.if-depth-gt-MAX_DEPTH.false refl (λ v. v) (λ v. v) (λ v. v) refl refl) (rw c.get.ensures at c.shape_check.ensures))
 
 pub shape_check-returns-in-List : goal.shape_check-returns-in-List
 unfolding nodes part_nodes case_nodes
-shape_check-returns-in-List t c = rw (c.in-List.is, form-listed)
+shape_check-returns-in-List t c = rw (c.in-List.is, form_of-List)
     (node_tells _ _ _ (bare_node c.args.depth (listed (form_of c.in-List.item)) c.if-depth-gt-MAX_DEPTH.false refl (λ v. v) (λ v. v) (λ v. v) refl refl) (rw c.get-in-List.ensures at c.shape_check-in-List.ensures))
 
 pub shape_check-returns-in_ok-tuple_check-in-Tuple : goal.shape_check-returns-in_ok-tuple_check-in-Tuple
 unfolding nodes part_nodes case_nodes
 shape_check-returns-in_ok-tuple_check-in-Tuple t c =
     let less = c.in_ok-tuple_check-in-Tuple.ensures c.args.depth c.if-depth-gt-MAX_DEPTH.false in
-    rw (c.in-Tuple.is, form-tuple) (node_tells _ _ _ (rw c.as_slice.ensures at less) (rw c.as_slice-in-Tuple.ensures at c.parts_check.ensures))
+    rw (c.in-Tuple.is, form_of-Tuple) (node_tells _ _ _ (rw c.as_slice.ensures at less) (rw c.as_slice-in-Tuple.ensures at c.parts_check.ensures))
 
 pub shape_check-returns-in_ok-record_check-in-Fields : goal.shape_check-returns-in_ok-record_check-in-Fields
 unfolding nodes part_nodes case_nodes
 shape_check-returns-in_ok-record_check-in-Fields t c =
     let less = c.in_ok-record_check-in-Fields.ensures c.args.depth c.if-depth-gt-MAX_DEPTH.false in
-    rw (c.in-Fields.is, form-fields) (node_tells _ _ _ (rw c.as_slice-in-Fields.ensures at less) (rw c.as_slice-in-Fields-2.ensures at c.fields_check.ensures))
+    rw (c.in-Fields.is, form_of-Fields) (node_tells _ _ _ (rw c.as_slice-in-Fields.ensures at less) (rw c.as_slice-in-Fields-2.ensures at c.fields_check.ensures))
 
 pub shape_check-returns-in_ok-sum_check-in-Sum : goal.shape_check-returns-in_ok-sum_check-in-Sum
 unfolding nodes part_nodes case_nodes
 shape_check-returns-in_ok-sum_check-in-Sum t c =
     let less = c.in_ok-sum_check-in-Sum.ensures c.args.depth c.if-depth-gt-MAX_DEPTH.false in
-    rw (c.in-Sum.is, form-sum) (node_tells _ _ _ (rw c.as_slice-in-Sum.ensures at less) (rw c.as_slice-in-Sum-2.ensures at c.cases_check.ensures))
+    rw (c.in-Sum.is, form_of-Sum) (node_tells _ _ _ (rw c.as_slice-in-Sum.ensures at less) (rw c.as_slice-in-Sum-2.ensures at c.cases_check.ensures))
 
 pub shape_check-returns-in_ok-poly_check-in-Poly : goal.shape_check-returns-in_ok-poly_check-in-Poly
 unfolding nodes part_nodes case_nodes
 shape_check-returns-in_ok-poly_check-in-Poly t c =
     let less = c.in_ok-poly_check-in-Poly.ensures c.args.depth c.if-depth-gt-MAX_DEPTH.false in
-    rw (c.in-Poly.is, form-poly) (node_tells _ _ _ (rw c.as_slice-in-Poly.ensures at less) (rw c.as_slice-in-Poly-2.ensures at c.arguments_check.ensures))
+    rw (c.in-Poly.is, form_of-Poly) (node_tells _ _ _ (rw c.as_slice-in-Poly.ensures at less) (rw c.as_slice-in-Poly-2.ensures at c.arguments_check.ensures))
 
 pub shape_check-returns-in-Sexp : goal.shape_check-returns-in-Sexp
 unfolding nodes part_nodes case_nodes
-shape_check-returns-in-Sexp t c = rw (c.in-Sexp.is, form-sexp) (bare_good c.args.depth sexp (bare_node c.args.depth sexp c.if-depth-gt-MAX_DEPTH.false refl (λ v. v) (λ v. v) (λ v. v) refl refl))
+shape_check-returns-in-Sexp t c = rw (c.in-Sexp.is, form_of-Sexp) (bare_good c.args.depth sexp (bare_node c.args.depth sexp c.if-depth-gt-MAX_DEPTH.false refl (λ v. v) (λ v. v) (λ v. v) refl refl))

@@ -7,7 +7,7 @@ use Rattle.std.proofs.lemmas.Option.{slice_get-map, slice_get_read, slice_get_pa
 use Rattle.bp_value.specs.declared.value.Value.TheVariants as val
 use Rattle.bp_value.specs.Form.{form_of, field_form, case_form, poly_form, unnamed, cases}
 use Rattle.bp_value.specs.Fits.{Fits, FitParts, FitCase}
-use Rattle.bp_value.proofs.Forms.{form-unit, form-bool, form-char, form-int, form-int32, form-int64, form-text, form-opt, form-listed, form-tuple, form-fields, form-sum, form-poly, form-sexp}
+use Rattle.bp_value.proofs.Forms.{form_of-Unit, form_of-Bool, form_of-Char, form_of-Int, form_of-Int32, form_of-Int64, form_of-Text, form_of-Opt, form_of-List, form_of-Tuple, form_of-Fields, form_of-Sum, form_of-Poly, form_of-Sexp}
 use Rattle.bp_value.proofs.FitSteps.{made_so, not_made, within, above, absent_fits, present_fits, no_option, case_fits, no_case, items_is, parts_is, case_here, case_nowhere, all_more, all_done, lengths_differ, no_more, goes_on, stops, no_argument, one_argument, no_one}
 use Rattle.bp_value.proofs.fitting.+fits.Goals as goal
 
@@ -71,59 +71,59 @@ record_fits-returns-in_default t c = not_made val.Parts _ _ c.in_default.not-Par
 
 pub shape_fits-returns-in-Unit : goal.shape_fits-returns-in-Unit
 unfolding Fits FitParts FitCase
-shape_fits-returns-in-Unit t c = rw (c.in-Unit.is, form-unit) c.is_unit.ensures
+shape_fits-returns-in-Unit t c = rw (c.in-Unit.is, form_of-Unit) c.is_unit.ensures
 
 pub shape_fits-returns-in-Bool : goal.shape_fits-returns-in-Bool
 unfolding Fits FitParts FitCase
-shape_fits-returns-in-Bool t c = rw (c.in-Bool.is, form-bool) c.is_bool.ensures
+shape_fits-returns-in-Bool t c = rw (c.in-Bool.is, form_of-Bool) c.is_bool.ensures
 
 pub shape_fits-returns-in-Char : goal.shape_fits-returns-in-Char
 unfolding Fits FitParts FitCase
-shape_fits-returns-in-Char t c = rw (c.in-Char.is, form-char) c.is_char.ensures
+shape_fits-returns-in-Char t c = rw (c.in-Char.is, form_of-Char) c.is_char.ensures
 
 pub shape_fits-returns-in-Int : goal.shape_fits-returns-in-Int
 unfolding Fits FitParts FitCase
-shape_fits-returns-in-Int t c = rw (c.in-Int.is, form-int) c.is_number.ensures
+shape_fits-returns-in-Int t c = rw (c.in-Int.is, form_of-Int) c.is_number.ensures
 
 pub shape_fits-returns-in-Int32 : goal.shape_fits-returns-in-Int32
 unfolding Fits FitParts FitCase
-shape_fits-returns-in-Int32 t c = rw (c.in-Int32.is, form-int32) (rw (c.from.ensures, c.from-in-Int32.ensures) at c.is_number-in-Int32.ensures)
+shape_fits-returns-in-Int32 t c = rw (c.in-Int32.is, form_of-Int32) (rw (c.from.ensures, c.from-in-Int32.ensures) at c.is_number-in-Int32.ensures)
 
 pub shape_fits-returns-in-Int64 : goal.shape_fits-returns-in-Int64
 unfolding Fits FitParts FitCase
-shape_fits-returns-in-Int64 t c = rw (c.in-Int64.is, form-int64) c.is_number-in-Int64.ensures
+shape_fits-returns-in-Int64 t c = rw (c.in-Int64.is, form_of-Int64) c.is_number-in-Int64.ensures
 
 pub shape_fits-returns-in-Text : goal.shape_fits-returns-in-Text
 unfolding Fits FitParts FitCase
-shape_fits-returns-in-Text t c = rw (c.in-Text.is, form-text) c.is_text.ensures
+shape_fits-returns-in-Text t c = rw (c.in-Text.is, form_of-Text) c.is_text.ensures
 
 pub shape_fits-returns-in-Opt : goal.shape_fits-returns-in-Opt
 unfolding Fits FitParts FitCase
-shape_fits-returns-in-Opt t c = rw (c.in-Opt.is, form-opt) (rw c.get.ensures at c.option_fits.ensures)
+shape_fits-returns-in-Opt t c = rw (c.in-Opt.is, form_of-Opt) (rw c.get.ensures at c.option_fits.ensures)
 
 pub shape_fits-returns-in-List : goal.shape_fits-returns-in-List
 unfolding Fits FitParts FitCase
-shape_fits-returns-in-List t c = rw (c.in-List.is, form-listed) (rw c.get-in-List.ensures at c.list_fits.ensures)
+shape_fits-returns-in-List t c = rw (c.in-List.is, form_of-List) (rw c.get-in-List.ensures at c.list_fits.ensures)
 
 pub shape_fits-returns-in-Tuple : goal.shape_fits-returns-in-Tuple
 unfolding Fits FitParts FitCase
-shape_fits-returns-in-Tuple t c = rw (c.in-Tuple.is, form-tuple) (rw c.as_slice.ensures at c.tuple_fits.ensures)
+shape_fits-returns-in-Tuple t c = rw (c.in-Tuple.is, form_of-Tuple) (rw c.as_slice.ensures at c.tuple_fits.ensures)
 
 pub shape_fits-returns-in-Fields : goal.shape_fits-returns-in-Fields
 unfolding Fits FitParts FitCase
-shape_fits-returns-in-Fields t c = rw (c.in-Fields.is, form-fields) (rw c.as_slice-in-Fields.ensures at c.record_fits.ensures)
+shape_fits-returns-in-Fields t c = rw (c.in-Fields.is, form_of-Fields) (rw c.as_slice-in-Fields.ensures at c.record_fits.ensures)
 
 pub shape_fits-returns-in-Sum : goal.shape_fits-returns-in-Sum
 unfolding Fits FitParts FitCase
-shape_fits-returns-in-Sum t c = rw (c.in-Sum.is, form-sum) (rw c.as_slice-in-Sum.ensures at c.sum_fits.ensures)
+shape_fits-returns-in-Sum t c = rw (c.in-Sum.is, form_of-Sum) (rw c.as_slice-in-Sum.ensures at c.sum_fits.ensures)
 
 pub shape_fits-returns-in-Poly : goal.shape_fits-returns-in-Poly
 unfolding Fits FitParts FitCase
-shape_fits-returns-in-Poly t c = rw (c.in-Poly.is, form-poly) (rw c.as_slice-in-Poly.ensures at c.poly_fits.ensures)
+shape_fits-returns-in-Poly t c = rw (c.in-Poly.is, form_of-Poly) (rw c.as_slice-in-Poly.ensures at c.poly_fits.ensures)
 
 pub shape_fits-returns-in-Sexp : goal.shape_fits-returns-in-Sexp
 unfolding Fits FitParts FitCase
-shape_fits-returns-in-Sexp t c = rw (c.in-Sexp.is, form-sexp) c.is_sexp.ensures
+shape_fits-returns-in-Sexp t c = rw (c.in-Sexp.is, form_of-Sexp) c.is_sexp.ensures
 
 pub sum_fits-returns-in-Some : goal.sum_fits-returns-in-Some
 unfolding Fits FitParts FitCase
