@@ -1,15 +1,15 @@
 -- How many members the form of a shape has, and their names and tags.
-use Rattle.std.proofs.Common.{◌≡◌, ℕ, ℤ, ◌+◌, ◌<◌, min, suc, ◌⊎◌, inl, inr, List, [], ◌∷◌, map, length, take, slice_get, Some, refl, sym, ap, ◌∙◌, arith}
+use Rattle.std.proofs.Common.{◌≡◌, ℕ, ℤ, ◌+◌, ◌<◌, suc, ◌⊎◌, inl, inr, List, [], ◌∷◌, map, length, take, set, slice_get, Some, refl, sym, ap, ◌∙◌, arith}
 use Rattle.std.specs.Option.{option_map}
 use Rattle.std.proofs.lemmas.Bool.{cases_lt}
-use Rattle.std.proofs.lemmas.List.{length-map, length-take}
-use Rattle.std.proofs.lemmas.Option.{slice_get-map, slice_get_within}
+use Rattle.std.proofs.lemmas.List.{length-map, length-set, get_or-set_same, get_or-set_other}
+use Rattle.std.proofs.lemmas.Option.{slice_get-map, slice_get-get_or}
 use Rattle.bp_value.specs.declared.shape.Case.{Case}
 use Rattle.bp_value.specs.declared.shape.Field.{Field}
 use Rattle.bp_value.specs.declared.shape.PolyCase.{PolyCase}
 use Rattle.bp_value.specs.Tags.{tag_of}
 use Rattle.bp_value.specs.Form.{Form, Parts, named_parts, cases, field_form, case_form, poly_form}
-use Rattle.bp_value.specs.Names.{IsFirstRepeat}
+use Rattle.bp_value.specs.Names.{IsNowhere}
 use Rattle.bp_value.specs.Faults.{part_names, case_names}
 use Rattle.bp_value.proofs.FaultSteps.{taken}
 
@@ -37,51 +37,49 @@ pub poly_tags : (cs : List PolyCase) → map (λ c. tag_of c.name) cs ≡ map ta
 poly_tags [] = refl
 poly_tags (c ∷ cs) = λ i. tag_of c.name ∷ poly_tags cs i
 
--- an item of the front of a list
-pub front_item : {A B : Type 0} (g : A → B) (n i : ℕ) (xs : List A) → i < n → slice_get (map g (take n xs)) i ≡ slice_get (map g xs) i
-front_item g n i xs lt = slice_get-map g (take n xs) i ∙ ap (option_map g) (taken n i xs lt) ∙ sym (slice_get-map g xs i)
-
 -- ---- the tags of the cases
 
 abbrev pub tags_of : List PolyCase → List ℤ
 tags_of cs = map (λ c. tag_of c.name) cs
 
-tag_at : (cs : List PolyCase) (i : ℕ) (c : PolyCase) (t : ℤ) → slice_get cs i ≡ Some c → t ≡ tag_of c.name → slice_get (tags_of cs) i ≡ Some t
+pub tag_at : (cs : List PolyCase) (i : ℕ) (c : PolyCase) (t : ℤ) → slice_get cs i ≡ Some c → t ≡ tag_of c.name → slice_get (tags_of cs) i ≡ Some t
 tag_at cs i c t at_c is = slice_get-map (λ x. tag_of x.name) cs i ∙ ap (option_map (λ x. tag_of x.name)) at_c ∙ ap Some (sym is)
 
 below_next : (k n : ℕ) → k < n + 1 → (k < n) ⊎ (k ≡ n)
 below_next k n lt = elim (cases_lt k n) [ inl l ↦ inl l | inr g ↦ inr (omega arith) ]
 
--- none of the tags up to a place and with it is the one looked for
-pub not_here : (cs : List PolyCase) (i : ℕ) (c : PolyCase) (r t : ℤ) → slice_get cs i ≡ Some c → r ≡ tag_of c.name → (r ≡ t → ⊥)
-    → ((k : ℕ) → k < i → slice_get (tags_of cs) k ≡ Some t → ⊥) → (k : ℕ) → k < i + 1 → slice_get (tags_of cs) k ≡ Some t → ⊥
-not_here cs i c r t at_c is other before k lt e = elim (below_next k i lt) [
-  | inl l ↦ before k l e
-  | inr same ↦ other (let both : Some r ≡ Some t = sym (tag_at cs i c r at_c is) ∙ ap (slice_get (tags_of cs)) (sym same) ∙ e in cc)
-]
+-- ---- items kept in a list that is made longer than they need
 
-module _ (cs : List PolyCase) (j : ℕ) (c : PolyCase) (t : ℤ) (at_c : slice_get cs j ≡ Some c) (is : t ≡ tag_of c.name)
-    (before : (a b : ℕ) → a < b → b < j → slice_get (tags_of cs) a ≡ slice_get (tags_of cs) b → ⊥) where
-  front_below : (i : ℕ) → i < length (take j cs) → i < j
-  front_below i lt = let e : length (take j cs) ≡ min j (length cs) = length-take j cs in omega arith
+set_here : {A : Type 0} (xs : List A) (i : ℕ) (x : A) → i < length xs → slice_get (set xs i x) i ≡ Some x
+set_here xs i x lt =
+    slice_get-get_or (set xs i x) i x (rw (length-set xs i x) lt) ∙ ap Some (get_or-set_same xs i x x lt)
 
-  front_within : (i : ℕ) → i < j → i < length (take j cs)
-  front_within i lt = let e : length (take j cs) ≡ min j (length cs) = length-take j cs in let in_list : j < length cs = slice_get_within cs j c at_c in omega arith
+set_elsewhere : {A : Type 0} (xs : List A) (i j : ℕ) (x : A) → j < length xs → (j ≡ i → ⊥)
+    → slice_get (set xs i x) j ≡ slice_get xs j
+set_elsewhere xs i j x lt other =
+    slice_get-get_or (set xs i x) j x (rw (length-set xs i x) lt) ∙ ap Some (get_or-set_other xs i j x x other)
+    ∙ sym (slice_get-get_or xs j x lt)
 
-  pub clash_found : (i : ℕ) → i < length (take j cs) → slice_get (tags_of (take j cs)) i ≡ Some t → ((k : ℕ) → k < i → slice_get (tags_of (take j cs)) k ≡ Some t → ⊥)
-      → IsFirstRepeat (tags_of cs) i j
-  clash_found i lt same first = record {
-    before = front_below i lt;
-    within = rw (length-map cs (λ x. tag_of x.name)) (slice_get_within cs j c at_c);
-    same = sym (front_item (λ x. tag_of x.name) j i cs (front_below i lt)) ∙ same ∙ sym (tag_at cs j c t at_c is);
-    least_first = λ k l e. first k l (front_item (λ x. tag_of x.name) j k cs (let below : i < j = front_below i lt in omega arith) ∙ e ∙ tag_at cs j c t at_c is);
-    least_second = before;
-  }
+-- the first n items of a list are kept in another, and no two of them are one
+pub record AreKept {A : Type 0} (xs kept : List A) (n : ℕ) : Type 0 where
+  pub same : (k : ℕ) → k < n → slice_get kept k ≡ slice_get xs k
+  pub new : (a b : ℕ) → a < b → b < n → slice_get xs a ≡ slice_get xs b → ⊥
 
-  pub clash_none : ((k : ℕ) → k < length (take j cs) → slice_get (tags_of (take j cs)) k ≡ Some t → ⊥)
-      → (a b : ℕ) → a < b → b < j + 1 → slice_get (tags_of cs) a ≡ slice_get (tags_of cs) b → ⊥
-  clash_none none a b lt next e = elim (below_next b j next) [
-    | inl l ↦ before a b lt l e
-    | inr same ↦ let below : a < j = omega arith in
-        none a (front_within a below) (front_item (λ x. tag_of x.name) j a cs below ∙ e ∙ ap (slice_get (tags_of cs)) same ∙ tag_at cs j c t at_c is)
+-- one more item, which is none of those kept
+module _ {A : Type 0} (xs kept : List A) (n : ℕ) (stands : AreKept xs kept n) (x : A) (at_x : slice_get xs n ≡ Some x)
+    (room : n < length kept) (nowhere : IsNowhere (take n kept) x) where
+  same_more : (k : ℕ) → k < n + 1 → slice_get (set kept n x) k ≡ slice_get xs k
+  same_more k lt = elim (below_next k n lt) [
+    | inl l ↦ set_elsewhere kept n k x (omega arith) (λ e. absurd (omega arith)) ∙ stands.same k l
+    | inr e ↦ rw e (set_here kept n x room ∙ sym at_x)
   ]
+
+  new_more : (a b : ℕ) → a < b → b < n + 1 → slice_get xs a ≡ slice_get xs b → ⊥
+  new_more a b lt next e = elim (below_next b n next) [
+    | inl l ↦ stands.new a b lt l e
+    | inr same ↦ let below : a < n = omega arith in
+        nowhere a (taken n a kept below ∙ stands.same a below ∙ e ∙ ap (slice_get xs) same ∙ at_x)
+  ]
+
+  pub keep_one : AreKept xs (set kept n x) (n + 1)
+  keep_one = record { same = same_more; new = new_more }

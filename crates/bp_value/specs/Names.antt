@@ -33,3 +33,12 @@ pub record IsFirstRepeat {A : Type 0} (xs : List A) (first second : ℕ) : Type 
   pub same : slice_get xs first ≡ slice_get xs second
   pub least_first : (k : ℕ) → k < first → slice_get xs k ≢ slice_get xs second
   pub least_second : (a b : ℕ) → a < b → b < second → slice_get xs a ≢ slice_get xs b
+
+-- no item of the list is x
+abbrev pub IsNowhere : {A : Type 0} → List A → A → Type 0
+IsNowhere xs x = (k : ℕ) → slice_get xs k ≢ Some x
+
+-- the least place where x stands
+pub record IsFirstPlace {A : Type 0} (xs : List A) (x : A) (place : ℕ) : Type 0 where
+  pub stands : slice_get xs place ≡ Some x
+  pub least : (k : ℕ) → k < place → slice_get xs k ≢ Some x

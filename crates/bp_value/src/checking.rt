@@ -4,7 +4,7 @@ ghost use Rattle.bp_value.specs.declared.fault.ShapeFault.{ShapeFault};
 ghost use Rattle.bp_value.specs.Form.{form_of, field_form, case_form, poly_form, parts, named_parts, cases, argument};
 ghost use Rattle.bp_value.specs.Form as form;
 ghost use Rattle.bp_value.specs.Tags.{tag_of};
-ghost use Rattle.bp_value.specs.Names.{IsDistinct, IsFirstRepeat};
+ghost use Rattle.bp_value.specs.Names.{IsDistinct, IsFirstRepeat, IsNowhere, IsFirstPlace};
 ghost use Rattle.bp_value.specs.Named.{names_of};
 ghost use Rattle.bp_value.specs.Faults.{nodes, part_nodes, case_nodes, IsGood, FirstFault, TellsNode, TellsNodes, TellsCount, TellsNames};
 
@@ -189,28 +189,32 @@ fn names_check(names: &Names) -> Result<(), ShapeFault>
     }
 }
 
-/// The first tag that two cases have: the place of the first, and of the second.
+/// The first tag that two cases have: the place of the first, and of the second. Each name is
+/// hashed once: the tags so far are kept on the stack. They are kept in this function alone, and it
+/// is kept out of its callers, because a function clears its locals whenever it is entered.
+#[inline(never)]
 fn tag_clash(poly: &[PolyCase]) -> Option<(usize, usize)>
+    requires { length poly.now ≤ 256 }
     ensures { let tags = map (λ case. tag_of case.name) poly.now in
         MatchOption result (IsDistinct tags) (λ places. IsFirstRepeat tags places.0 places.1) }
 {
+    let mut tags = [0; MAX_MEMBERS];
     for (second, case) in poly.iter().enumerate() {
-        if let Some(first) = place_of_tag(&poly[..second], poly_tag(case.name.as_slice())) {
+        let tag = poly_tag(case.name.as_slice());
+        if let Some(first) = place_of(&tags[..second], tag) {
             return Some((first, second));
         }
+        tags[second] = tag;
     }
     None
 }
 
-/// The first of these cases that has the tag.
-fn place_of_tag(poly: &[PolyCase], tag: i32) -> Option<usize>
-    ensures { let tags = map (λ case. tag_of case.name) poly.now in
-        MatchOption result
-        ((k : ℕ) → k < length poly.now → slice_get tags k ≢ Some tag)
-        (λ first. (first < length poly.now) × (slice_get tags first ≡ Some tag) × ((k : ℕ) → k < first → slice_get tags k ≢ Some tag)) }
+/// The first place of the tag.
+fn place_of(tags: &[i32], tag: i32) -> Option<usize>
+    ensures { MatchOption result (IsNowhere tags.now tag) (λ place. IsFirstPlace tags.now tag place) }
 {
-    for (place, case) in poly.iter().enumerate() {
-        if poly_tag(case.name.as_slice()) == tag {
+    for (place, other) in tags.iter().enumerate() {
+        if *other == tag {
             return Some(place);
         }
     }
