@@ -7,6 +7,7 @@ use Rattle.std.proofs.lemmas.List.Elements.{All-nil, All-cons, All-head, All-tai
 use Rattle.std.proofs.lemmas.Option.{slice_get-get_or}
 use Rattle.bp_value.specs.declared.fault.ShapeFault.TheVariants.{TooDeep, EmptySum, ShortTuple, EmptyFields, TooMany, BadName, SameName, TagClash}
 use Rattle.bp_value.specs.Form.{Form, Parts, Cases, unit, bool, char, int, int32, int64, text, opt, listed, tuple, fields, sum, poly, sexp, part, case}
+use Rattle.bp_value.specs.Limits.{deepest_shape, most_members, longest_name}
 use Rattle.bp_value.specs.Names.{IsShapeName, IsNameStart, IsNameByte, IsFirstBadName, IsDistinct, IsFirstRepeat}
 use Rattle.bp_value.specs.Faults.{nodes, part_nodes, case_nodes, member_count, names, tags, IsTuple, IsRecord, IsVariant, IsFaultless, IsGood}
 
@@ -142,8 +143,8 @@ pub decided_name : (s : List ℕ) → IsShapeName s ⊎ (IsShapeName s → ⊥)
 decided_name [] = inr (λ h. h)
 decided_name (b ∷ s) = elim (decided_start b) [
   | inr other ↦ inr (λ h. other h.0)
-  | inl is ↦ elim (cases_lt (length s) 64) [
-    | inr long ↦ inr (λ h. let short : length s < 64 = h.1 in omega arith)
+  | inl is ↦ elim (cases_lt (length s) longest_name) [
+    | inr long ↦ inr (λ h. let short : length s < longest_name = h.1 in omega arith)
     | inl short ↦ elim (decided_bytes s) [ inl all ↦ inl (is, short, all) | inr others ↦ inr (λ h. others h.2) ]
   ]
 ]
@@ -163,11 +164,11 @@ module _ (ns : List (List ℕ)) (none : (p : ℕ) → IsFirstBadName ns p → �
 -- ---- at one node
 
 module _ (d : ℕ) (f : Form) (less : IsFaultless (d, f)) where
-  pub shallow : d ≤ 64
-  shallow = elim (cases_lt 64 d) [ inl deep ↦ absurd (less (TooDeep d) (refl, deep)) | inr le ↦ le ]
+  pub shallow : d ≤ deepest_shape
+  shallow = elim (cases_lt deepest_shape d) [ inl deep ↦ absurd (less (TooDeep d) (refl, deep)) | inr le ↦ le ]
 
-  pub few_members : member_count f ≤ 256
-  few_members = elim (cases_lt 256 (member_count f)) [ inl many ↦ absurd (less (TooMany (member_count f)) (refl, many)) | inr le ↦ le ]
+  pub few_members : member_count f ≤ most_members
+  few_members = elim (cases_lt most_members (member_count f)) [ inl many ↦ absurd (less (TooMany (member_count f)) (refl, many)) | inr le ↦ le ]
 
   pub some_cases : IsVariant f → 0 < member_count f
   some_cases variant = elim (cases_lt 0 (member_count f)) [ inl some ↦ some | inr none ↦ absurd (less EmptySum (variant, omega arith)) ]

@@ -4,6 +4,7 @@ use Rattle.std.specs.List.{All}
 use Rattle.bp_value.specs.declared.fault.ShapeFault.{ShapeFault}
 use Rattle.bp_value.specs.declared.fault.ShapeFault.TheVariants.{TooDeep, EmptySum, ShortTuple, EmptyFields, TooMany, BadName, SameName, TagClash}
 use Rattle.bp_value.specs.Tags.{tag_of}
+use Rattle.bp_value.specs.Limits.{deepest_shape, most_members}
 use Rattle.bp_value.specs.Names.{IsShapeName, IsFirstBadName, IsDistinct, IsFirstRepeat}
 use Rattle.bp_value.specs.Form.{Form, Parts, Cases, unit, bool, char, int, int32, int64, text, opt, listed, tuple, fields, sum, poly, sexp, end, part, end_cases, case}
 
@@ -75,11 +76,11 @@ IsVariant _ = ⊥
 
 -- the node f at depth d has this fault
 abbrev pub HasFault : ℕ → Form → ShapeFault → Type 0
-HasFault d f (TooDeep depth) = (depth ≡ d) × (64 < d)
+HasFault d f (TooDeep depth) = (depth ≡ d) × (deepest_shape < d)
 HasFault d f EmptySum = IsVariant f × (member_count f ≡ 0)
 HasFault d f (ShortTuple count) = IsTuple f × (count ≡ member_count f) × (count < 2)
 HasFault d f EmptyFields = IsRecord f × (member_count f ≡ 0)
-HasFault d f (TooMany count) = (count ≡ member_count f) × (256 < count)
+HasFault d f (TooMany count) = (count ≡ member_count f) × (most_members < count)
 HasFault d f (BadName place) = IsFirstBadName (names f) place
 HasFault d f (SameName first second) = IsFirstRepeat (names f) first second
 HasFault d f (TagClash first second) = IsFirstRepeat (tags f) first second
@@ -100,7 +101,9 @@ IsFaultless node = (x : ShapeFault) → HasFault node.0 node.1 x → ⊥
 
 -- the fault of the node that has the lowest number
 abbrev pub IsFaultOf : ℕ × Form → ShapeFault → Type 0
-IsFaultOf node x = HasFault node.0 node.1 x × ((y : ShapeFault) → number y < number x → HasFault node.0 node.1 y → ⊥)
+IsFaultOf node x =
+    HasFault node.0 node.1 x
+    × ((y : ShapeFault) → number y < number x → HasFault node.0 node.1 y → ⊥)
 
 -- the fault of the first node that has one
 abbrev pub IsFirstIn : List (ℕ × Form) → ShapeFault → Type 0
@@ -114,10 +117,13 @@ IsGood f = All IsFaultless (nodes 1 f)
 unfoldable pub FirstFault : Form → ShapeFault → Type 0
 FirstFault f x = IsFirstIn (nodes 1 f) x
 
--- what an answer says of one node, and of some nodes
+-- what an answer says of one node, of one that is not too deep, and of some nodes
 abbrev pub TellsNode : ℕ × Form → Result (Unit {0}) ShapeFault → Type 0
 TellsNode node (Ok u) = IsFaultless node
 TellsNode node (Err x) = IsFaultOf node x
+
+abbrev pub TellsShallow : Form → Result (Unit {0}) ShapeFault → Type 0
+TellsShallow f r = (d : ℕ) → d ≤ deepest_shape → TellsNode (d, f) r
 
 abbrev pub TellsNodes : List (ℕ × Form) → Result (Unit {0}) ShapeFault → Type 0
 TellsNodes ns (Ok u) = All IsFaultless ns
@@ -125,8 +131,8 @@ TellsNodes ns (Err x) = IsFirstIn ns x
 
 -- and of how many members there are, and of their names
 abbrev pub TellsCount : ℕ → Result (Unit {0}) ShapeFault → Type 0
-TellsCount n (Ok u) = n ≤ 256
-TellsCount n (Err x) = (256 < n) × (x ≡ TooMany n)
+TellsCount n (Ok u) = n ≤ most_members
+TellsCount n (Err x) = (most_members < n) × (x ≡ TooMany n)
 
 abbrev pub IsFaultOfNames : List (List ℕ) → ShapeFault → Type 0
 IsFaultOfNames ns (BadName place) = IsFirstBadName ns place

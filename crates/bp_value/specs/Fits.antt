@@ -5,6 +5,7 @@ use Rattle.bp_value.specs.declared.value.Value.{Value}
 use Rattle.bp_value.specs.declared.value.Value.TheVariants as val
 use Rattle.bp_value.specs.declared.value.Sexp.{Sexp}
 use Rattle.bp_value.specs.declared.value.Sexp.TheVariants as sx
+use Rattle.bp_value.specs.Limits.{deepest_sexp}
 use Rattle.bp_value.specs.Form.{Form, Parts, Cases, unit, bool, char, int, int32, int64, text, opt, listed, tuple, fields, sum, poly, sexp, end, part, end_cases, case}
 
 -- v is what `made` makes of something with the property P
@@ -21,7 +22,9 @@ InRange bits n = (negsuc (2 ^ bits - 1) ≤ℤ n) × (n ≤ℤ pos (2 ^ bits - 1
 -- an S-expression of at most this depth, each of whose atoms and lists has at most m bytes or items
 unfoldable pub FitsSexp : ℕ → ℕ → Sexp → Type 0
 FitsSexp m zero s = ⊥
-FitsSexp m (suc depth) s = IsMade sx.Atom (λ t. length t ≤ m) s ⊎ IsMade sx.List (λ ss. (length ss ≤ m) × All (FitsSexp m depth) ss) s
+FitsSexp m (suc depth) s =
+    IsMade sx.Atom (λ t. length t ≤ m) s
+    ⊎ IsMade sx.List (λ ss. (length ss ≤ m) × All (FitsSexp m depth) ss) s
 
 -- what holds of the case at a place: of this one at place 0, of a later one at the place after it
 abbrev pub AtPlace : (List Value → Type 0) → (ℕ → List Value → Type 0) → ℕ → List Value → Type 0
@@ -43,7 +46,7 @@ unfoldable mutual
   Fits m (fields fs) v = IsMade val.Parts (FitParts m fs) v
   Fits m (sum cs) v = (place : ℕ) × IsMade (val.Case place) (FitCase m cs place) v
   Fits m (poly cs) v = (place : ℕ) × IsMade (val.Case place) (FitCase m cs place) v
-  Fits m sexp v = IsMade val.Sexp (FitsSexp m 128) v
+  Fits m sexp v = IsMade val.Sexp (FitsSexp m deepest_sexp) v
 
   -- the values of the parts, in order
   pub FitParts : ℕ → Parts → List Value → Type 0

@@ -25,12 +25,12 @@ mutual
     poly : Cases → Form
     sexp : Form
 
-  -- parts in order, each with its name; the parts of a tuple and the arguments of a case have the empty name
+  -- parts in order, each with its name: the empty one in a tuple and in the arguments of a case
   pub data Parts : Type 0 where
     end : Parts
     part : List ℕ → Form → Parts → Parts
 
-  -- cases in order, each with its name and its arguments; a case of a polymorphic variant has one or none
+  -- cases in order, each with its name and its arguments: in a polymorphic variant one or none
   pub data Cases : Type 0 where
     end_cases : Cases
     case : List ℕ → Parts → Cases → Cases
@@ -70,18 +70,23 @@ shape_step (layer.Sum cs) = sum (cases cs)
 shape_step (layer.Poly cs) = poly (cases cs)
 shape_step layer.Sexp = sexp
 
-abbrev pub case_step : Case-F Form (List ℕ × Parts) (List ℕ × Form) (List ℕ × Parts) → List ℕ × Parts
+abbrev pub case_step : Case-F Form (List ℕ × Parts) (List ℕ × Form) (List ℕ × Parts)
+    → List ℕ × Parts
 case_step c = (c.name, parts c.args)
 
-abbrev pub field_step : Field-F Form (List ℕ × Parts) (List ℕ × Form) (List ℕ × Parts) → List ℕ × Form
+abbrev pub field_step : Field-F Form (List ℕ × Parts) (List ℕ × Form) (List ℕ × Parts)
+    → List ℕ × Form
 field_step f = (f.name, f.shape)
 
-abbrev pub poly_step : PolyCase-F Form (List ℕ × Parts) (List ℕ × Form) (List ℕ × Parts) → List ℕ × Parts
+abbrev pub poly_step : PolyCase-F Form (List ℕ × Parts) (List ℕ × Form) (List ℕ × Parts)
+    → List ℕ × Parts
 poly_step c = (c.name, argument c.arg)
 
 -- what definitions see of a shape
 unfoldable pub form_of : Shape → Form
-form_of s = fold-Shape Form (List ℕ × Parts) (List ℕ × Form) (List ℕ × Parts) shape_step case_step field_step poly_step s
+form_of s =
+    fold-Shape Form (List ℕ × Parts) (List ℕ × Form) (List ℕ × Parts)
+    shape_step case_step field_step poly_step s
 
 abbrev pub field_form : Field → List ℕ × Form
 field_form f = (f.name, form_of f.shape)

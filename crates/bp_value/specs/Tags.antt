@@ -8,7 +8,8 @@ name_number (byte ∷ rest) = byte * 223 ^ length rest + name_number rest
 
 -- the low 31 bits of a number, as a signed number of 31 bits
 abbrev pub signed_low : ℕ → ℤ
-signed_low n = if nat_lt (n % 2 ^ 31) (2 ^ 30) then pos (n % 2 ^ 31) else (pos (n % 2 ^ 31) -ℤ pos (2 ^ 31))
+signed_low n =
+    if nat_lt (n % 2 ^ 31) (2 ^ 30) then pos (n % 2 ^ 31) else (pos (n % 2 ^ 31) -ℤ pos (2 ^ 31))
 
 -- OCaml keeps the signed number h as 2h + 1
 abbrev pub tag_of : List ℕ → ℤ

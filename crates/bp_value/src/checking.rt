@@ -1,12 +1,13 @@
-ghost use Rattle.std.specs.Prelude.{◌≡◌, ◌↔◌, ◌<◌, ◌≤◌, ◌≢◌, ℕ, Some, Ok, Err, map, length, slice_get, MatchOption, IsOk};
+ghost use Rattle.std.specs.Prelude.{◌≡◌, ◌↔◌, ◌+◌, ◌≤◌, Err, map, length, MatchOption, IsOk};
 ghost use Rattle.std.specs.Option.{option_map};
 ghost use Rattle.bp_value.specs.declared.fault.ShapeFault.{ShapeFault};
 ghost use Rattle.bp_value.specs.Form.{form_of, field_form, case_form, poly_form, parts, named_parts, cases, argument};
 ghost use Rattle.bp_value.specs.Form as form;
 ghost use Rattle.bp_value.specs.Tags.{tag_of};
+ghost use Rattle.bp_value.specs.Limits.{deepest_shape, most_members};
 ghost use Rattle.bp_value.specs.Names.{IsDistinct, IsFirstRepeat, IsNowhere, IsFirstPlace};
 ghost use Rattle.bp_value.specs.Named.{names_of};
-ghost use Rattle.bp_value.specs.Faults.{nodes, part_nodes, case_nodes, IsGood, FirstFault, TellsNode, TellsNodes, TellsCount, TellsNames};
+ghost use Rattle.bp_value.specs.Faults.{nodes, part_nodes, case_nodes, IsGood, FirstFault, TellsShallow, TellsNodes, TellsCount, TellsNames};
 
 use crate::boxed::Boxed;
 use crate::fault::ShapeFault;
@@ -21,10 +22,12 @@ const MAX_DEPTH: usize = 64;
 const MAX_MEMBERS: usize = 256;
 
 impl Shape {
-    /// Whether the shape is good, or its first fault. It goes over the nodes once; names are compared within one node alone.
+    /// Whether the shape is good, or its first fault. It goes over the nodes once; names are compared
+    /// within one node alone.
     pub fn check(&self) -> Result<(), ShapeFault>
         ensures good { IsOk result ↔ IsGood (form_of self.now) }
-        ensures fault { (fault : ShapeFault) → ((result ≡ Err fault) ↔ FirstFault (form_of self.now) fault) }
+        ensures fault { (fault : ShapeFault) →
+            ((result ≡ Err fault) ↔ FirstFault (form_of self.now) fault) }
     {
         shape_check(self, 1)
     }
@@ -32,7 +35,7 @@ impl Shape {
 
 #[cycle(checks)]
 fn shape_check(shape: &Shape, depth: usize) -> Result<(), ShapeFault>
-    requires { depth ≤ 65 }
+    requires { depth ≤ deepest_shape + 1 }
     ensures { TellsNodes (nodes depth (form_of shape.now)) result }
 {
     if depth > MAX_DEPTH {
@@ -70,7 +73,7 @@ fn shape_check(shape: &Shape, depth: usize) -> Result<(), ShapeFault>
 
 #[cycle(checks)]
 fn parts_check(shapes: &[Shape], depth: usize) -> Result<(), ShapeFault>
-    requires { depth ≤ 65 }
+    requires { depth ≤ deepest_shape + 1 }
     ensures { TellsNodes (part_nodes depth (parts (map form_of shapes.now))) result }
 {
     for shape in shapes {
@@ -81,7 +84,7 @@ fn parts_check(shapes: &[Shape], depth: usize) -> Result<(), ShapeFault>
 
 #[cycle(checks)]
 fn fields_check(fields: &[Field], depth: usize) -> Result<(), ShapeFault>
-    requires { depth ≤ 65 }
+    requires { depth ≤ deepest_shape + 1 }
     ensures { TellsNodes (part_nodes depth (named_parts (map field_form fields.now))) result }
 {
     for field in fields {
@@ -92,7 +95,7 @@ fn fields_check(fields: &[Field], depth: usize) -> Result<(), ShapeFault>
 
 #[cycle(checks)]
 fn cases_check(sum: &[Case], depth: usize) -> Result<(), ShapeFault>
-    requires { depth ≤ 65 }
+    requires { depth ≤ deepest_shape + 1 }
     ensures { TellsNodes (case_nodes depth (cases (map case_form sum.now))) result }
 {
     for case in sum {
@@ -103,7 +106,7 @@ fn cases_check(sum: &[Case], depth: usize) -> Result<(), ShapeFault>
 
 #[cycle(checks)]
 fn arguments_check(poly: &[PolyCase], depth: usize) -> Result<(), ShapeFault>
-    requires { depth ≤ 65 }
+    requires { depth ≤ deepest_shape + 1 }
     ensures { TellsNodes (case_nodes depth (cases (map poly_form poly.now))) result }
 {
     for case in poly {
@@ -114,7 +117,7 @@ fn arguments_check(poly: &[PolyCase], depth: usize) -> Result<(), ShapeFault>
 
 #[cycle(checks)]
 fn argument_check(shape: &Option<Boxed<Shape>>, depth: usize) -> Result<(), ShapeFault>
-    requires { depth ≤ 65 }
+    requires { depth ≤ deepest_shape + 1 }
     ensures { TellsNodes (part_nodes depth (argument (option_map form_of shape.now))) result }
 {
     match shape {
@@ -124,7 +127,7 @@ fn argument_check(shape: &Option<Boxed<Shape>>, depth: usize) -> Result<(), Shap
 }
 
 fn tuple_check(shapes: &[Shape]) -> Result<(), ShapeFault>
-    ensures { (d : ℕ) → d ≤ 64 → TellsNode (d, form.tuple (parts (map form_of shapes.now))) result }
+    ensures { TellsShallow (form.tuple (parts (map form_of shapes.now))) result }
 {
     if shapes.len() < 2 {
         return Err(ShapeFault::ShortTuple {
@@ -135,7 +138,7 @@ fn tuple_check(shapes: &[Shape]) -> Result<(), ShapeFault>
 }
 
 fn record_check(fields: &[Field]) -> Result<(), ShapeFault>
-    ensures { (d : ℕ) → d ≤ 64 → TellsNode (d, form.fields (named_parts (map field_form fields.now))) result }
+    ensures { TellsShallow (form.fields (named_parts (map field_form fields.now))) result }
 {
     if fields.is_empty() {
         return Err(ShapeFault::EmptyFields);
@@ -145,7 +148,7 @@ fn record_check(fields: &[Field]) -> Result<(), ShapeFault>
 }
 
 fn sum_check(sum: &[Case]) -> Result<(), ShapeFault>
-    ensures { (d : ℕ) → d ≤ 64 → TellsNode (d, form.sum (cases (map case_form sum.now))) result }
+    ensures { TellsShallow (form.sum (cases (map case_form sum.now))) result }
 {
     if sum.is_empty() {
         return Err(ShapeFault::EmptySum);
@@ -155,7 +158,7 @@ fn sum_check(sum: &[Case]) -> Result<(), ShapeFault>
 }
 
 fn poly_check(poly: &[PolyCase]) -> Result<(), ShapeFault>
-    ensures { (d : ℕ) → d ≤ 64 → TellsNode (d, form.poly (cases (map poly_form poly.now))) result }
+    ensures { TellsShallow (form.poly (cases (map poly_form poly.now))) result }
 {
     if poly.is_empty() {
         return Err(ShapeFault::EmptySum);
@@ -194,7 +197,7 @@ fn names_check(names: &Names) -> Result<(), ShapeFault>
 /// is kept out of its callers, because a function clears its locals whenever it is entered.
 #[inline(never)]
 fn tag_clash(poly: &[PolyCase]) -> Option<(usize, usize)>
-    requires { length poly.now ≤ 256 }
+    requires { length poly.now ≤ most_members }
     ensures { let tags = map (λ case. tag_of case.name) poly.now in
         MatchOption result (IsDistinct tags) (λ places. IsFirstRepeat tags places.0 places.1) }
 {
@@ -211,7 +214,8 @@ fn tag_clash(poly: &[PolyCase]) -> Option<(usize, usize)>
 
 /// The first place of the tag.
 fn place_of(tags: &[i32], tag: i32) -> Option<usize>
-    ensures { MatchOption result (IsNowhere tags.now tag) (λ place. IsFirstPlace tags.now tag place) }
+    ensures { MatchOption result (IsNowhere tags.now tag)
+        (λ place. IsFirstPlace tags.now tag place) }
 {
     for (place, other) in tags.iter().enumerate() {
         if *other == tag {

@@ -5,6 +5,7 @@ ghost use Rattle.bp_value.specs.declared.value.Value.TheVariants as val;
 ghost use Rattle.bp_value.specs.Form.{form_of, field_form, case_form, poly_form, parts, named_parts, cases, argument};
 ghost use Rattle.bp_value.specs.Form as form;
 ghost use Rattle.bp_value.specs.Faults.{IsGood};
+ghost use Rattle.bp_value.specs.Limits.{deepest_sexp};
 ghost use Rattle.bp_value.specs.Fits.{Fits, FitParts, FitsSexp, IsMade, Anything};
 
 use crate::boxed::Boxed;
@@ -112,7 +113,8 @@ fn parts_fit(shapes: &[Shape], values: &[Value], max_len: u64) -> bool
 
 #[cycle(fits)]
 fn record_fits(fields: &[Field], value: &Value, max_len: u64) -> bool
-    ensures { IsTrue result ↔ Fits max_len (form.fields (named_parts (map field_form fields.now))) value.now }
+    ensures { let record_form = form.fields (named_parts (map field_form fields.now)) in
+        IsTrue result ↔ Fits max_len record_form value.now }
 {
     match value {
         Value::Parts(values) => fields_fit(fields, values.as_slice(), max_len),
@@ -122,7 +124,8 @@ fn record_fits(fields: &[Field], value: &Value, max_len: u64) -> bool
 
 #[cycle(fits)]
 fn fields_fit(fields: &[Field], values: &[Value], max_len: u64) -> bool
-    ensures { IsTrue result ↔ FitParts max_len (named_parts (map field_form fields.now)) values.now }
+    ensures { let fields_form = named_parts (map field_form fields.now) in
+        IsTrue result ↔ FitParts max_len fields_form values.now }
 {
     if fields.len() != values.len() {
         return false;
@@ -163,7 +166,8 @@ fn poly_fits(poly: &[PolyCase], value: &Value, max_len: u64) -> bool
 
 #[cycle(fits)]
 fn argument_fits(shape: &Option<Boxed<Shape>>, values: &[Value], max_len: u64) -> bool
-    ensures { IsTrue result ↔ FitParts max_len (argument (option_map form_of shape.now)) values.now }
+    ensures { let argument_form = argument (option_map form_of shape.now) in
+        IsTrue result ↔ FitParts max_len argument_form values.now }
 {
     match shape {
         None => values.is_empty(),
@@ -208,7 +212,7 @@ fn is_text(value: &Value, max_len: u64) -> bool
 }
 
 fn is_sexp(value: &Value, max_len: u64) -> bool
-    ensures { IsTrue result ↔ IsMade val.Sexp (FitsSexp max_len 128) value.now }
+    ensures { IsTrue result ↔ IsMade val.Sexp (FitsSexp max_len deepest_sexp) value.now }
 {
     match value {
         Value::Sexp(sexp) => sexp_fits(sexp, SEXP_DEPTH, max_len),

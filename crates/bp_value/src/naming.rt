@@ -1,6 +1,6 @@
-ghost use Rattle.std.specs.Prelude.{◌≡◌, ◌↔◌, ◌<◌, ◌≢◌, ℕ, IsTrue, Some, map, length, slice_get, MatchOption};
+ghost use Rattle.std.specs.Prelude.{◌≡◌, ◌↔◌, ◌<◌, IsTrue, Some, map, length, slice_get, MatchOption};
 ghost use Rattle.std.specs.List.{All};
-ghost use Rattle.bp_value.specs.Names.{IsShapeName, IsNameStart, IsNameByte, IsFirstBadName, IsDistinct, IsFirstRepeat};
+ghost use Rattle.bp_value.specs.Names.{IsShapeName, IsNameStart, IsNameByte, IsFirstBadName, IsDistinct, IsFirstRepeat, IsNewAt, IsFirstAlike};
 ghost use Rattle.bp_value.specs.Named.{names_of};
 
 use crate::shape::{Case, Field, PolyCase};
@@ -40,7 +40,8 @@ impl<'a> Names<'a> {
 
     /// The place of the first name that is none.
     pub fn first_bad(&self) -> Option<usize>
-        ensures { MatchOption result (All IsShapeName (names_of self.now)) (λ place. IsFirstBadName (names_of self.now) place) }
+        ensures { let names = names_of self.now in
+            MatchOption result (All IsShapeName names) (λ place. IsFirstBadName names place) }
     {
         for place in 0..self.len() {
             if !is_name(self.name(place)) {
@@ -52,7 +53,8 @@ impl<'a> Names<'a> {
 
     /// The first name that stands twice: its first place, and its second.
     pub fn first_repeat(&self) -> Option<(usize, usize)>
-        ensures { MatchOption result (IsDistinct (names_of self.now)) (λ places. IsFirstRepeat (names_of self.now) places.0 places.1) }
+        ensures { let names = names_of self.now in
+            MatchOption result (IsDistinct names) (λ places. IsFirstRepeat names places.0 places.1) }
     {
         for second in 0..self.len() {
             if let Some(first) = self.earlier(second) {
@@ -65,10 +67,8 @@ impl<'a> Names<'a> {
     /// The first place before this one that has its name.
     fn earlier(&self, second: usize) -> Option<usize>
         requires { second < length (names_of self.now) }
-        ensures { MatchOption result
-            ((k : ℕ) → k < second → slice_get (names_of self.now) k ≢ slice_get (names_of self.now) second)
-            (λ first. (first < second) × (slice_get (names_of self.now) first ≡ slice_get (names_of self.now) second)
-            × ((k : ℕ) → k < first → slice_get (names_of self.now) k ≢ slice_get (names_of self.now) second)) }
+        ensures { let names = names_of self.now in
+            MatchOption result (IsNewAt names second) (λ first. IsFirstAlike names first second) }
     {
         let name = self.name(second);
         for first in 0..second {

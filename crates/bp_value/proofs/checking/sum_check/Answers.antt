@@ -1,6 +1,7 @@
 -- One node's faults, in their order.
 use Rattle.std.proofs.Common.{◌≤◌, map, length, sym, subst}
 use Rattle.std.proofs.lemmas.Result.{err_from_is_err_and}
+use Rattle.bp_value.specs.Limits.{most_members}
 use Rattle.bp_value.specs.Form.{case_form, cases, sum}
 use Rattle.bp_value.specs.Faults.{TellsNames}
 use Rattle.bp_value.proofs.FaultSteps.{count_fault, named_tells, none_distinct, there}
@@ -15,4 +16,4 @@ returns-in_err-count_check c = λ d deep.
 pub returns : goal.returns
 returns c = λ d deep.
     named_tells d (sum (cases (map case_form c.args.sum.now))) deep (there _ _ _ c.is_empty.ensures c.if-is_empty.false (case_count case_form c.args.sum.now)) (λ t. t)
-    (let few : length c.args.sum.now ≤ 256 = c.in_ok-count_check.ensures in rw (case_count case_form c.args.sum.now) few) _ none_distinct (subst (λ ns. TellsNames ns c.names_check.result) (sum_names c.args.sum.now) c.names_check.ensures)
+    (let few : length c.args.sum.now ≤ most_members = c.in_ok-count_check.ensures in rw (case_count case_form c.args.sum.now) few) _ none_distinct (subst (λ ns. TellsNames ns c.names_check.result) (sum_names c.args.sum.now) c.names_check.ensures)
