@@ -16,10 +16,10 @@ use crate::shape::{Case, Field, PolyCase, Shape};
 use crate::tagging::poly_tag;
 
 /// The greatest depth of a node; the root has depth 1.
-const MAX_DEPTH: usize = 64;
+pub const MAX_DEPTH: usize = 64;
 
 /// The most parts of a tuple, fields of a record or cases of a variant.
-const MAX_MEMBERS: usize = 256;
+pub const MAX_MEMBERS: usize = 256;
 
 impl Shape {
     /// Whether the shape is good, or its first fault. It goes over the nodes once; names are compared

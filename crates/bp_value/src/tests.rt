@@ -108,6 +108,52 @@ fn check_answers_the_first_fault(rt: HostRuntime) -> Result<(), Fail> {
 }
 
 #[test]
+fn faults_say_what_and_where(rt: HostRuntime) -> Result<(), Fail> {
+    let alloc = rt.alloc();
+    for (fault, text) in [
+        (
+            ShapeFault::TooDeep { depth: 65 },
+            "a node at depth 65, and 64 is the deepest",
+        ),
+        (ShapeFault::EmptySum, "a variant with no case"),
+        (
+            ShapeFault::ShortTuple { parts: 1 },
+            "a tuple whose number of parts is 1, and 2 is the least",
+        ),
+        (ShapeFault::EmptyFields, "a record with no field"),
+        (
+            ShapeFault::TooMany { count: 257 },
+            "257 parts, fields or cases in a node, and 256 are the most",
+        ),
+        (
+            ShapeFault::BadName { place: 3 },
+            "a name out of form at place 3",
+        ),
+        (
+            ShapeFault::SameName {
+                first: 0,
+                second: 2,
+            },
+            "the name at place 0 again at place 2",
+        ),
+        (
+            ShapeFault::TagClash {
+                first: 1,
+                second: 4,
+            },
+            "the tag of the name at place 1 again at place 4",
+        ),
+    ] {
+        assert_eq!(rt; format!(in alloc; "{fault}")?.as_str(), text);
+    }
+    assert_eq!(rt;
+        format!(in alloc; "{}", OutOfMemory)?.as_str(),
+        "out of memory"
+    );
+    Ok(())
+}
+
+#[test]
 fn check_counts_depth_and_members(rt: HostRuntime) -> Result<(), Fail> {
     let alloc = rt.alloc();
     assert_eq!(rt; options(alloc, 64)?.check(), Ok(()));
