@@ -1,11 +1,15 @@
-ghost use Rattle.std.specs.Prelude.{◌≡◌, length, IfOk};
+ghost use Rattle.std.specs.Prelude.{◌≡◌, ◌↔◌, [], IfOk, IsTrue, length};
 
 use crate::memory::OutOfMemory;
 use std::alloc::Global;
+use std::fmt;
 use std::marker::Model;
 
 /// A text or any other run of bytes. Contracts see the list of its bytes.
-#[derive(Debug, Drop)]
+///
+/// `Debug` prints printable ASCII as a text in quotes, and where there is any other byte, all of them
+/// in hex, as `0xfe00c8`.
+#[derive(Drop)]
 pub struct Blob {
     bytes: Vec<u8>,
 }
@@ -19,10 +23,20 @@ impl Model for Blob {
 }
 
 impl Blob {
+    /// Takes the vector as it is, its spare capacity too. No memory.
     pub fn from_vec(bytes: Vec<u8>) -> Blob
         ensures { result ≡ bytes.items }
     {
         Blob { bytes }
+    }
+
+    /// Copies the bytes into one block of exactly their number.
+    pub fn from_slice(alloc: Global, bytes: &[u8]) -> Result<Blob, OutOfMemory>
+        ensures { IfOk result (λ blob. blob ≡ bytes.now) }
+    {
+        Ok(Blob {
+            bytes: Vec::from_slice(alloc, bytes)?,
+        })
     }
 
     pub fn as_slice(&self) -> &[u8]
@@ -38,6 +52,12 @@ impl Blob {
         self.bytes.len()
     }
 
+    pub fn is_empty(&self) -> bool
+        ensures { IsTrue result ↔ (self.now ≡ []) }
+    {
+        self.bytes.is_empty()
+    }
+
     pub fn into_vec(self) -> Vec<u8>
         ensures { result.items ≡ self }
     {
@@ -48,8 +68,27 @@ impl Blob {
     pub fn copy(&self, alloc: Global) -> Result<Blob, OutOfMemory>
         ensures { IfOk result (λ copy. copy ≡ self.now) }
     {
-        Ok(Blob {
-            bytes: Vec::from_slice(alloc, self.as_slice())?,
-        })
+        Blob::from_slice(alloc, self.as_slice())
     }
+}
+
+impl fmt::Debug for Blob {
+    fn fmt<W: fmt::Write>(&self, f: &mut fmt::Formatter<W>) -> fmt::Result {
+        if let Some(text) = printable(self.as_slice()) {
+            return write!(f, "{text:?}");
+        }
+        write!(f, "0x")?;
+        for byte in self.as_slice() {
+            write!(f, "{byte:02x}")?;
+        }
+        Ok(())
+    }
+}
+
+/// The bytes as a text, where each of them is printable ASCII.
+fn printable(bytes: &[u8]) -> Option<&str> {
+    if !bytes.iter().all(|byte| matches!(byte, b' '..=b'~')) {
+        return None;
+    }
+    std::str::from_utf8(bytes).ok()
 }

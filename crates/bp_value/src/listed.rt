@@ -1,9 +1,10 @@
-ghost use Rattle.std.specs.Prelude.{◌≡◌, length};
+ghost use Rattle.std.specs.Prelude.{◌≡◌, ◌↔◌, [], IsTrue, length};
 
+use std::fmt;
 use std::marker::Model;
 
 /// A list of values. Contracts see the list of its items, so that a type may reach itself through it and stay plain data.
-#[derive(Debug, Drop)]
+#[derive(Drop)]
 pub struct Listed<T> {
     items: Vec<T>,
 }
@@ -39,10 +40,22 @@ impl<T> Listed<T> {
         self.items.len()
     }
 
+    pub fn is_empty(&self) -> bool
+        ensures { IsTrue result ↔ (self.now ≡ []) }
+    {
+        self.items.is_empty()
+    }
+
     pub fn into_vec(self) -> Vec<T>
         ensures { result.items ≡ self }
     {
         let Listed { items } = self;
         items
+    }
+}
+
+impl<T: fmt::Debug> fmt::Debug for Listed<T> {
+    fn fmt<W: fmt::Write>(&self, f: &mut fmt::Formatter<W>) -> fmt::Result {
+        write!(f, "{:?}", self.items)
     }
 }

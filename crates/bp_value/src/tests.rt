@@ -5,7 +5,7 @@ use std::alloc::Global;
 use std::test::Fail;
 
 fn blob(alloc: Global, text: &str) -> Result<Blob, OutOfMemory> {
-    Ok(Blob::from_vec(Vec::from_slice(alloc, text.as_bytes())?))
+    Blob::from_slice(alloc, text.as_bytes())
 }
 
 fn sum_of(alloc: Global, names: &[&str]) -> Result<Shape, OutOfMemory> {
@@ -34,7 +34,7 @@ fn sum_with(alloc: Global, count: u16) -> Result<Shape, OutOfMemory>
     let mut cases = Vec::new(alloc);
     for place in 0..count {
         let letters = [b'a' + (place / 16) as u8, b'a' + (place % 16) as u8];
-        let name = Blob::from_vec(Vec::from_slice(alloc, &letters)?);
+        let name = Blob::from_slice(alloc, &letters)?;
         let args = Listed::from_vec(Vec::new(alloc));
         cases.push(Case { name, args })?;
     }
@@ -229,14 +229,44 @@ fn owners_give_back_what_they_took(rt: HostRuntime) -> Result<(), Fail> {
     let alloc = rt.alloc();
     let text = blob(alloc, "ab")?;
     assert_eq!(rt; (text.len(), text.as_slice()), (2, b"ab".as_slice()));
+    let text = Blob::from_vec(text.into_vec());
+    assert_eq!(rt;
+        (text.is_empty(), text.as_slice()),
+        (false, b"ab".as_slice())
+    );
+    assert!(rt; blob(alloc, "")?.is_empty());
     let listed = Listed::from_vec(vec![in alloc; 3u8, 4, 5]?);
     assert_eq!(rt;
         (listed.len(), listed.as_slice()),
         (3, [3, 4, 5].as_slice())
     );
+    assert!(rt; !listed.is_empty());
     assert_eq!(rt; listed.into_vec().len(), 3);
     let boxed = Boxed::new(alloc, 7u8)?;
     assert_eq!(rt; *boxed.get(), 7);
     assert_eq!(rt; boxed.into_inner(), 7);
+    Ok(())
+}
+
+#[test]
+fn debug_shows_texts_as_texts(rt: HostRuntime) -> Result<(), Fail> {
+    let alloc = rt.alloc();
+    let text = blob(alloc, "say \"hi\" ~")?;
+    assert_eq!(rt;
+        format!(in alloc; "{text:?}")?.as_str(),
+        "\"say \\\"hi\\\" ~\""
+    );
+    assert_eq!(rt;
+        format!(in alloc; "{:?}", blob(alloc, "")?)?.as_str(),
+        "\"\""
+    );
+    let bytes = Blob::from_slice(alloc, b"a\x00\x7f\xfe")?;
+    assert_eq!(rt; format!(in alloc; "{bytes:?}")?.as_str(), "0x61007ffe");
+    let sexp = Sexp::List(Listed::from_vec(vec![in alloc; Sexp::Atom(text), lists(alloc, 1)?]?));
+    let value = Value::Present(Boxed::new(alloc, Value::Sexp(sexp))?);
+    assert_eq!(rt;
+        format!(in alloc; "{value:?}")?.as_str(),
+        "Present(Sexp(List([Atom(\"say \\\"hi\\\" ~\"), List([])])))"
+    );
     Ok(())
 }
