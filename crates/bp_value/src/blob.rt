@@ -58,6 +58,13 @@ impl Blob {
         self.bytes.is_empty()
     }
 
+    /// Whether both have the same bytes.
+    pub fn is_same(&self, other: &Blob) -> bool
+        ensures { IsTrue result ↔ (self.now ≡ other.now) }
+    {
+        self.as_slice() == other.as_slice()
+    }
+
     pub fn into_vec(self) -> Vec<u8>
         ensures { result.items ≡ self }
     {

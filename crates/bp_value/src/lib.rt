@@ -4,6 +4,7 @@
 mod blob;
 mod boxed;
 mod checking;
+mod comparing;
 mod copying;
 mod fault;
 mod fitting;

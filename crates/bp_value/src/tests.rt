@@ -270,3 +270,27 @@ fn debug_shows_texts_as_texts(rt: HostRuntime) -> Result<(), Fail> {
     );
     Ok(())
 }
+
+#[test]
+fn equals_are_the_same(rt: HostRuntime) -> Result<(), Fail> {
+    let alloc = rt.alloc();
+    assert!(rt; blob(alloc, "ab")?.is_same(&blob(alloc, "ab")?));
+    assert!(rt; !blob(alloc, "ab")?.is_same(&blob(alloc, "abc")?));
+    let shape = sum_of(alloc, &["A", "B"])?;
+    assert!(rt; shape.is_same(&sum_of(alloc, &["A", "B"])?));
+    assert!(rt; !shape.is_same(&sum_of(alloc, &["A", "C"])?));
+    assert!(rt; !shape.is_same(&poly_of(alloc, &["A", "B"])?));
+    assert!(rt; lists(alloc, 3)?.is_same(&lists(alloc, 3)?));
+    assert!(rt; !lists(alloc, 3)?.is_same(&lists(alloc, 2)?));
+    let none = Value::Case {
+        place: 1,
+        args: Listed::from_vec(Vec::new(alloc)),
+    };
+    let one = Value::Case {
+        place: 1,
+        args: Listed::from_vec(vec![in alloc; Value::Num(5)]?),
+    };
+    assert!(rt; one.is_same(&one.copy(alloc)?));
+    assert!(rt; !none.is_same(&one));
+    Ok(())
+}
