@@ -7,8 +7,8 @@ use std::marker::Model;
 
 /// A text or any other run of bytes. Contracts see the list of its bytes.
 ///
-/// `Debug` prints printable ASCII as a text in quotes, and where there is any other byte, all of them
-/// in hex, as `0xfe00c8`.
+/// `Debug` prints printable ASCII as a text in quotes, with `"` and `\` escaped. Where there is any
+/// other byte it prints all of them in hex, as `0xfe00c8`.
 #[derive(Drop)]
 pub struct Blob {
     bytes: Vec<u8>,
@@ -23,7 +23,7 @@ impl Model for Blob {
 }
 
 impl Blob {
-    /// Takes the vector as it is, its spare capacity too. No memory.
+    /// Takes the vector as it is, its spare capacity too.
     pub fn from_vec(bytes: Vec<u8>) -> Blob
         ensures { result ≡ bytes.items }
     {
@@ -39,6 +39,7 @@ impl Blob {
         })
     }
 
+    /// The bytes.
     pub fn as_slice(&self) -> &[u8]
         ensures { result.now ≡ self.now }
     {
@@ -52,6 +53,7 @@ impl Blob {
         self.bytes.len()
     }
 
+    /// Whether there is no byte.
     pub fn is_empty(&self) -> bool
         ensures { IsTrue result ↔ (self.now ≡ []) }
     {
@@ -65,6 +67,7 @@ impl Blob {
         self.as_slice() == other.as_slice()
     }
 
+    /// The vector of the bytes. None is moved.
     pub fn into_vec(self) -> Vec<u8>
         ensures { result.items ≡ self }
     {
@@ -72,6 +75,7 @@ impl Blob {
         bytes
     }
 
+    /// Copies the bytes into one block of exactly their number.
     pub fn copy(&self, alloc: Global) -> Result<Blob, OutOfMemory>
         ensures { IfOk result (λ copy. copy ≡ self.now) }
     {

@@ -5,8 +5,8 @@ use std::alloc::Global;
 use std::fmt;
 use std::marker::Model;
 
-/// One value on the heap. Contracts see the value alone, where they would see a `Box` with its pointer:
-/// so a copy equals its source.
+/// One value on the heap. Contracts see the value alone, where they would see a `Box` with its
+/// pointer: so a copy equals its source. `Debug` prints the value.
 #[derive(Drop)]
 pub struct Boxed<T> {
     inner: Box<T>,
@@ -21,18 +21,21 @@ impl<T> Model for Boxed<T> {
 }
 
 impl<T> Boxed<T> {
+    /// Takes the box as it is. No memory.
     pub fn from_box(inner: Box<T>) -> Boxed<T>
         ensures { result ≡ inner.value }
     {
         Boxed { inner }
     }
 
+    /// The value.
     pub fn get(&self) -> &T
         ensures { result.now ≡ self.now }
     {
         &self.inner
     }
 
+    /// Moves the value off the heap, and frees its block.
     pub fn into_inner(self) -> T
         ensures { result ≡ self }
     {
@@ -42,7 +45,7 @@ impl<T> Boxed<T> {
 }
 
 impl<T: Drop> Boxed<T> {
-    /// Puts the value on the heap; it is dropped where memory runs out.
+    /// Puts the value on the heap. It is dropped where memory runs out.
     pub fn new(alloc: Global, value: T) -> Result<Boxed<T>, OutOfMemory>
         ensures { IfOk result (λ boxed. boxed ≡ value) }
     {

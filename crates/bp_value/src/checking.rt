@@ -15,15 +15,20 @@ use crate::naming::Names;
 use crate::shape::{Case, Field, PolyCase, Shape};
 use crate::tagging::poly_tag;
 
-/// The greatest depth of a node; the root has depth 1.
+/// The greatest depth of a node. The root has depth 1.
 pub const MAX_DEPTH: usize = 64;
 
 /// The most parts of a tuple, fields of a record or cases of a variant.
 pub const MAX_MEMBERS: usize = 256;
 
 impl Shape {
-    /// Whether the shape is good, or its first fault. It goes over the nodes once; names are compared
-    /// within one node alone.
+    /// Whether the shape is good, or its first fault: a node stands before its children, and
+    /// children in order, and of the faults of one node the first in the order of [`ShapeFault`]
+    /// counts.
+    ///
+    /// It goes over the nodes once, and no deeper than 65. Names are compared within a node, each
+    /// with those before it, and tags likewise, so a node of n members takes up to n * n / 2
+    /// comparisons of each kind. It takes no memory.
     pub fn check(&self) -> Result<(), ShapeFault>
         ensures good { IsOk result ↔ IsGood (form_of self.now) }
         ensures fault { (fault : ShapeFault) →

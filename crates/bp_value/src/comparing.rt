@@ -7,8 +7,8 @@ use crate::shape::{Case, Field, PolyCase, Shape};
 use crate::value::{Sexp, Value};
 
 impl Shape {
-    /// Whether the two are equal, names and order too. It goes as deep as the two agree, and takes no
-    /// memory.
+    /// Whether the two are equal, in names and in order too. It stops at the first difference. It
+    /// takes no memory, and stack for each level down to which the two agree.
     pub fn is_same(&self, other: &Shape) -> bool
         ensures { IsTrue result ↔ (self.now ≡ other.now) }
     {
@@ -17,8 +17,9 @@ impl Shape {
 }
 
 impl Value {
-    /// Whether the two are equal. It goes as deep as the two agree, and takes no memory. Values of two
-    /// shapes may be equal: a number is one whatever its kind.
+    /// Whether the two are equal. Values of two shapes may be: a value does not say whether its
+    /// number is an int or an int32, nor whether its parts have names. It stops at the first
+    /// difference. It takes no memory, and stack for each level down to which the two agree.
     pub fn is_same(&self, other: &Value) -> bool
         ensures { IsTrue result ↔ (self.now ≡ other.now) }
     {
@@ -27,7 +28,8 @@ impl Value {
 }
 
 impl Sexp {
-    /// Whether the two are equal. It goes as deep as the two agree, and takes no memory.
+    /// Whether the two are equal. It stops at the first difference. It takes no memory, and stack
+    /// for each level down to which the two agree.
     pub fn is_same(&self, other: &Sexp) -> bool
         ensures { IsTrue result ↔ (self.now ≡ other.now) }
     {

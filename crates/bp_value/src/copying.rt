@@ -9,6 +9,8 @@ use crate::value::{Sexp, Value};
 use std::alloc::Global;
 
 impl Shape {
+    /// Copies it with all that it holds, into blocks without spare room. It takes stack for each
+    /// level.
     pub fn copy(&self, alloc: Global) -> Result<Shape, OutOfMemory>
         ensures { IfOk result (λ copy. copy ≡ self.now) }
     {
@@ -17,6 +19,8 @@ impl Shape {
 }
 
 impl Value {
+    /// Copies it with all that it holds, into blocks without spare room. It takes stack for each
+    /// level.
     pub fn copy(&self, alloc: Global) -> Result<Value, OutOfMemory>
         ensures { IfOk result (λ copy. copy ≡ self.now) }
     {
@@ -25,6 +29,8 @@ impl Value {
 }
 
 impl Sexp {
+    /// Copies it with all that it holds, into blocks without spare room. It takes stack for each
+    /// level.
     pub fn copy(&self, alloc: Global) -> Result<Sexp, OutOfMemory>
         ensures { IfOk result (λ copy. copy ≡ self.now) }
     {

@@ -1,10 +1,11 @@
 use crate::checking::{MAX_DEPTH, MAX_MEMBERS};
 use thiserror::Error;
 
-/// Why a shape is not good: the first fault of its first faulty node, where a node stands before its
-/// children, and children in order. The root has depth 1, and places count from 0 within the node.
+/// Why a shape is not good: the first fault of its first faulty node, where a node stands before
+/// its children, and children in order. The faults of one node stand here in their order. The root
+/// has depth 1, and places count from 0 within the node.
 ///
-/// What is printed says the fault and its place, and not which node has it.
+/// What is printed says the fault and its place in the node, and not which node it is.
 #[derive(Debug, Clone, Copy, PartialEq, Eq, Error)]
 pub enum ShapeFault {
     /// The node stands deeper than 64.

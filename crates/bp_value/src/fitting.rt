@@ -20,8 +20,12 @@ const LEAST_INT: i64 = -(1 << 62);
 
 const GREATEST_INT: i64 = (1 << 62) - 1;
 
-/// Whether the value has the shape's form, its numbers are in their kinds' ranges, and its texts and lists have at
-/// most `max_len` bytes or items, those inside S-expressions too. An S-expression is at most 128 deep.
+/// Whether the value is one of the shape: it has the shape's form, its numbers are in their
+/// kinds' ranges, its texts and lists have at most `max_len` bytes or items, those inside
+/// S-expressions too, and its S-expressions are at most 128 deep.
+///
+/// It goes over the value once, no deeper than the shape and 128 levels into an S-expression. It
+/// takes no memory.
 pub fn fits(shape: &Shape, value: &Value, max_len: u64) -> bool
     requires { IsGood (form_of shape.now) }
     ensures { IsTrue result ↔ Fits max_len (form_of shape.now) value.now }

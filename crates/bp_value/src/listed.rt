@@ -3,7 +3,8 @@ ghost use Rattle.std.specs.Prelude.{◌≡◌, ◌↔◌, [], IsTrue, length};
 use std::fmt;
 use std::marker::Model;
 
-/// A list of values. Contracts see the list of its items, so that a type may reach itself through it and stay plain data.
+/// A list of values. Contracts see the list of its items, so that a type may reach itself through
+/// it and stay plain data. `Debug` prints it as a slice.
 #[derive(Drop)]
 pub struct Listed<T> {
     items: Vec<T>,
@@ -21,12 +22,14 @@ impl<T> Model for Listed<T> {
 }
 
 impl<T> Listed<T> {
+    /// Takes the vector as it is, its spare capacity too.
     pub fn from_vec(items: Vec<T>) -> Listed<T>
         ensures { result ≡ items.items }
     {
         Listed { items }
     }
 
+    /// The items, in order.
     pub fn as_slice(&self) -> &[T]
         ensures { result.now ≡ self.now }
     {
@@ -40,12 +43,14 @@ impl<T> Listed<T> {
         self.items.len()
     }
 
+    /// Whether there is no item.
     pub fn is_empty(&self) -> bool
         ensures { IsTrue result ↔ (self.now ≡ []) }
     {
         self.items.is_empty()
     }
 
+    /// The vector of the items. No item is moved.
     pub fn into_vec(self) -> Vec<T>
         ensures { result.items ≡ self }
     {

@@ -1,7 +1,8 @@
 use std::alloc::{AllocError, AllocFailed};
 use thiserror::Error;
 
-/// Memory ran out: the one refusal of a call that only takes memory.
+/// Memory ran out: the one refusal of a call that only takes memory. No contract says when: it may
+/// be answered at any allocation.
 #[derive(Debug, Clone, Copy, PartialEq, Eq, Error)]
 #[error("out of memory")]
 pub struct OutOfMemory;

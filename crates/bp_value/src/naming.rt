@@ -54,7 +54,8 @@ impl<'a> Names<'a> {
     /// The first name that stands twice: its first place, and its second.
     pub fn first_repeat(&self) -> Option<(usize, usize)>
         ensures { let names = names_of self.now in
-            MatchOption result (IsDistinct names) (λ places. IsFirstRepeat names places.0 places.1) }
+            MatchOption result (IsDistinct names)
+            (λ places. IsFirstRepeat names places.0 places.1) }
     {
         for second in 0..self.len() {
             if let Some(first) = self.earlier(second) {

@@ -2,35 +2,46 @@ use crate::blob::Blob;
 use crate::boxed::Boxed;
 use crate::listed::Listed;
 
-/// The type of a value: what bin_prot has to know to read or write it. The constructors are those of OCaml's types.
+/// The type of a value: what bin_prot has to know to read or write it. Each variant is an OCaml
+/// type or a way to make one of others.
+///
+/// Any shape can be built. A good one, which `check` passes, is at most 64 nodes deep, and has at
+/// most 256 parts, fields or cases in a node, each with a name of its own.
 #[cycle(shape)]
 #[derive(Debug, Drop)]
 pub enum Shape {
+    /// OCaml's `unit`.
     Unit,
+    /// OCaml's `bool`.
     Bool,
+    /// OCaml's `char`: one byte.
     Char,
     /// OCaml's `int`, of 63 bits.
     Int,
+    /// OCaml's `int32`.
     Int32,
+    /// OCaml's `int64`.
     Int64,
-    /// A string of any bytes.
+    /// OCaml's `string`, of any bytes.
     Text,
+    /// An `option`.
     Opt(Boxed<Shape>),
     /// A list, or an array, which is spelled alike.
     List(Boxed<Shape>),
-    /// Two parts or more.
+    /// A tuple, of two parts or more.
     Tuple(Listed<Shape>),
-    /// A record.
+    /// A record, its fields in the order of their declaration.
     Fields(Listed<Field>),
-    /// A variant, its cases numbered from 0 in their order.
+    /// A variant, its cases numbered from 0 in the order of their declaration.
     Sum(Listed<Case>),
     /// A polymorphic variant, its cases told apart by the tags of their names.
     Poly(Listed<PolyCase>),
-    /// An S-expression.
+    /// An S-expression, sexplib's `Sexp.t`.
     Sexp,
 }
 
-/// A field of a record.
+/// A field of a record. The name of a good one has 1 to 64 bytes: a letter or `_`, then letters,
+/// digits, `_` or `'`.
 #[cycle(shape)]
 #[derive(Debug, Drop)]
 pub struct Field {
@@ -38,7 +49,8 @@ pub struct Field {
     pub shape: Shape,
 }
 
-/// A case of a variant, with the shapes of its arguments.
+/// A case of a variant, with the shapes of its arguments. Its name is as that of a field; the
+/// arguments have none, and no bound on their number.
 #[cycle(shape)]
 #[derive(Debug, Drop)]
 pub struct Case {
@@ -46,7 +58,8 @@ pub struct Case {
     pub args: Listed<Shape>,
 }
 
-/// A case of a polymorphic variant, with the shape of its argument if it has one.
+/// A case of a polymorphic variant, with the shape of its argument if it has one. Its name is as
+/// that of a field, without the backtick.
 #[cycle(shape)]
 #[derive(Debug, Drop)]
 pub struct PolyCase {

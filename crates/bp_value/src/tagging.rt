@@ -1,8 +1,12 @@
 ghost use Rattle.std.specs.Prelude.{◌≡◌};
 ghost use Rattle.bp_value.specs.Tags.{tag_of};
 
-/// The tag of a polymorphic variant's case: OCaml's hash of the name, as the number `2h + 1` whose four
-/// little-endian bytes stand before the case's argument (bin_prot, "Polymorphic variants").
+/// The tag of a polymorphic variant's case, by its name without the backtick: OCaml's hash h of the
+/// name, as the number `2h + 1`. Its four bytes, the lowest first, stand before the case's argument
+/// (bin_prot's "Binary protocol specification", polymorphic variants).
+///
+/// Two names may have one tag; `check` refuses a variant that has both. Any bytes are hashed, names
+/// or not. The time grows with the length.
 pub fn poly_tag(name: &[u8]) -> i32
     ensures { result ≡ tag_of name.now }
 {
