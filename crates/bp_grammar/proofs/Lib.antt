@@ -1,0 +1,6 @@
+pub mod Leaves
+pub mod Right
+pub mod Telling
+pub mod Growing
+pub mod Good
+pub mod Starts

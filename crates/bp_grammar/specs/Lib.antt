@@ -1,0 +1,4 @@
+pub mod Spells
+pub mod Reasons
+pub mod Fronts
+pub mod Reading
