@@ -4,3 +4,4 @@ pub mod Telling
 pub mod Growing
 pub mod Good
 pub mod Starts
+pub mod FrontsAre

@@ -130,10 +130,10 @@ module _ (m : ℕ) (F : List ℕ → Type 0) (L : ℕ → List ℕ → Type 0) (
       (λ place t l. mapped_in IsByte Any (CaseFronts m cs place) (val.Case place) (SpellCase m cs place) (CaseWhy m cs place) (read_case m cs place) (each place (within place t l)))
       (λ place t l. meets_any Any (CaseFronts m cs) (λ k. Mapped (val.Case k) (SpellCase m cs k)) place)
 
-place_within : (n place : ℕ) (t : List ℕ) → One (place_of n) place t → place < n
+pub place_within : (n place : ℕ) (t : List ℕ) → One (place_of n) place t → place < n
 place_within n place t (b, cut, e) = (place_is n b place e).1
 
-key_within : (cs : Cases) (place : ℕ) (t : List ℕ) → Keyed (keys_of 0 cs) place t → place < case_count cs
+pub key_within : (cs : Cases) (place : ℕ) (t : List ℕ) → Keyed (keys_of 0 cs) place t → place < case_count cs
 key_within cs place t k = let y = keyed_place 0 cs place t k in omega (arith, y.1)
 
 -- ---- all forms

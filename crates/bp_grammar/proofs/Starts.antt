@@ -1,4 +1,4 @@
--- Each form that can be read has a spelling, and what begins one is what its parts begin.
+-- Each form that can be read has a spelling.
 use Rattle.std.proofs.Common.{refl, false, ℕ, zero, suc, ◌<◌, List, [], ◌∷◌, ◌++◌, inl, arith, lit<}
 use Rattle.readers.specs.Reader.{Any, Then, Mapped, Done, One, Count, Symbols}
 use Rattle.readers.specs.Keys.{Keyed}
@@ -20,27 +20,27 @@ HasText {A = A} L = (a : A) × (s : List ℕ) × L a s
 then_text : {A B : Type 0} (L : A → List ℕ → Type 0) (M : A → B → List ℕ → Type 0) (a : A) (t : List ℕ) → L a t → HasText (M a) → HasText (Then L M)
 then_text L M a t l (b, u, m) = (b, t ++ u, (a, t, u, refl, l, m))
 
-mapped_text : {A B : Type 0} (g : A → B) (L : A → List ℕ → Type 0) → HasText L → HasText (Mapped g L)
+pub mapped_text : {A B : Type 0} (g : A → B) (L : A → List ℕ → Type 0) → HasText L → HasText (Mapped g L)
 mapped_text g L (a, s, l) = (g a, s, (a, refl, l))
 
 zero_nat : (m : ℕ) → IsNat m 0 (0 ∷ [])
 zero_nat m = inl (lit< tt, omega arith, refl)
 
-counted_text : {A : Type 0} (m : ℕ) (L : A → List ℕ → Type 0) → HasText (Counted m L)
+pub counted_text : {A : Type 0} (m : ℕ) (L : A → List ℕ → Type 0) → HasText (Counted m L)
 counted_text m L = then_text (IsNat m) (Count L) 0 (0 ∷ []) (zero_nat m) ([], [], (refl, refl))
 
-sized_text : (m : ℕ) → HasText (Sized m)
+pub sized_text : (m : ℕ) → HasText (Sized m)
 sized_text m = then_text (IsNat m) (Symbols Any) 0 (0 ∷ []) (zero_nat m) ([], [], (refl, refl, tt))
 
-symbols_text : (n : ℕ) → HasText (Symbols Any n)
+pub symbols_text : (n : ℕ) → HasText (Symbols Any n)
 symbols_text n = let p = padded Any 0 tt n in (padding 0 n, padding 0 n, (refl, p.0, p.1))
 
-count_text : {A : Type 0} (L : A → List ℕ → Type 0) → HasText L → (n : ℕ) → HasText (Count L n)
+pub count_text : {A : Type 0} (L : A → List ℕ → Type 0) → HasText L → (n : ℕ) → HasText (Count L n)
 count_text L has zero = ([], [], (refl, refl))
 count_text L (a, s, l) (suc n) =
     then_text L (λ v. Mapped (λ us. v ∷ us) (Count L n)) a s l (mapped_text (λ us. a ∷ us) (Count L n) (count_text L (a, s, l) n))
 
-sexp_text : (m d : ℕ) → HasText (SpellsSexp m (suc d))
+pub sexp_text : (m d : ℕ) → HasText (SpellsSexp m (suc d))
 unfolding SpellsSexp
 sexp_text m d =
     then_text (One flag_of) (AtFlag (Mapped sx.Atom (Sized m)) (Mapped sx.List (Counted (room m d) (SpellsSexp m d)))) false (0 ∷ []) (0, refl, refl)
