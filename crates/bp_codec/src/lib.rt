@@ -1,0 +1,5 @@
+//! Bytes of values: the decoder, which is fed in pieces, and the encoder.
+#![tactic(auto)]
+
+mod plan;
+mod stop;
