@@ -5,3 +5,4 @@ pub mod Growing
 pub mod Good
 pub mod Starts
 pub mod FrontsAre
+pub mod NodeCounts

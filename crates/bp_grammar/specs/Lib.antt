@@ -2,3 +2,4 @@ pub mod Spells
 pub mod Reasons
 pub mod Fronts
 pub mod Reading
+pub mod Nodes
