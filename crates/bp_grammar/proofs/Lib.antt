@@ -6,3 +6,5 @@ pub mod Good
 pub mod Starts
 pub mod FrontsAre
 pub mod NodeCounts
+pub mod Covers
+pub mod Nodes
