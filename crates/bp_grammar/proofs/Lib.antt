@@ -8,3 +8,4 @@ pub mod FrontsAre
 pub mod NodeCounts
 pub mod Covers
 pub mod Nodes
+pub mod SomeBytes
