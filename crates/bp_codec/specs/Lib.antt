@@ -1,3 +1,5 @@
 pub mod Keeping
+pub mod Levels
 pub mod Nodes
+pub mod Opened
 pub mod Plan
