@@ -3,3 +3,4 @@ pub mod Levels
 pub mod Nodes
 pub mod Opened
 pub mod Plan
+pub mod Taking

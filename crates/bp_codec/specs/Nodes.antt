@@ -36,3 +36,12 @@ PolysFit ns tags = (i first count at : ℕ) → slice_get ns i ≡ Some (node.Po
 
 abbrev pub ArgsFit : List Node → Type 0
 ArgsFit ns = (i first count : ℕ) → slice_get ns i ≡ Some (node.Args first count) → first + count ≤ length ns
+
+-- all children stand where they may
+pub record ArePlaced (ns : List Node) (tags : List ℕ) : Type 0 where
+  pub opts : OptsFit ns
+  pub lists : ListsFit ns
+  pub parts : PartsFit ns
+  pub sums : SumsFit ns
+  pub polys : PolysFit ns (length tags)
+  pub args : ArgsFit ns

@@ -1,0 +1,59 @@
+-- How a step that takes bytes leaves what is open.
+use Rattle.std.specs.Prelude.{◌≡◌, ◌≢◌, ℕ, ◌<◌, ◌≤◌, List, ◌++◌, length, slice_get, Some, Result, Ok, Err, OnOk}
+use Rattle.readers.specs.Reader.{whole, more, bad}
+use Rattle.bp_value.specs.declared.value.Value.{Value}
+use Rattle.bp_codec.specs.declared.stop.Stop.{Stop}
+use Rattle.bp_codec.specs.declared.stop.Stop.TheVariants as stop
+use Rattle.bp_codec.specs.declared.levels.Level.{Level}
+use Rattle.bp_codec.specs.declared.levels.Next.TheVariants as next
+use Rattle.bp_codec.specs.declared.open.Open.{Open}
+use Rattle.bp_codec.specs.declared.plan.Node.{Node}
+use Rattle.bp_codec.specs.Keeping.{Keeps}
+use Rattle.bp_codec.specs.Nodes.{ArePlaced}
+use Rattle.bp_codec.specs.Plan.{Reading, AreRead}
+use Rattle.bp_codec.specs.Levels.{next_of, reach_of, next_reads, Onward, level_reads}
+use Rattle.bp_codec.specs.Opened.{opened, Reaches}
+
+-- a fact for the results after which reading may go on
+abbrev pub Unless : {T : Type 0} → Result T Stop → Type 0 → Type 0
+Unless (Ok t) P = P
+Unless (Err stop.More) P = P
+Unless (Err (stop.Bad w)) P = Unit {0}
+Unless (Err stop.OutOfMemory) P = Unit {0}
+
+-- A level took values from the bytes s, which leaves u, where what comes next is read by r.
+pub record Takes (r : Reading) (old new : Level) (s u : List ℕ) (result : Result (Unit {0}) Stop) : Type 0 where
+  pub keeps : (m : ℕ) (reading : ℕ → Reading) (onward : Onward) → next_of old.left ≢ next.Nothing → ((t : List ℕ) → next_reads m reading (next_of old.left) t ≡ r t)
+      → Keeps (level_reads m reading old onward) (level_reads m reading new onward) s u result
+  pub taken : OnOk result (length u < length s)
+  pub reach : Unless result (reach_of new.left ≤ reach_of old.left)
+
+-- All that is open took bytes of what comes next.
+pub record Moves (ns : List Node) (tags : List ℕ) (max : ℕ) (old new : Open) (s u : List ℕ) (result : Result (Unit {0}) Stop) : Type 0 where
+  pub keeps : (reading : ℕ → Reading) → AreRead max ns tags reading → Keeps (opened max reading old) (opened max reading new) s u result
+  pub taken : OnOk result (length u < length s)
+  pub reaches : Unless result (Reaches (length ns) new)
+
+-- a node is what comes next
+pub record ComesNext (ns : List Node) (n : Node) (o : Open) : Type 0 where
+  pub place : ℕ
+  pub next : next_of o.top.left ≡ next.Node place
+  pub at : slice_get ns place ≡ Some n
+
+-- a node is read where it comes next
+abbrev pub TakesNode : ℕ → Node → Open → Open → List ℕ → List ℕ → Result (Unit {0}) Stop → Type 0
+TakesNode max n old new s u result =
+    (ns : List Node) (tags : List ℕ) → ArePlaced ns tags → ComesNext ns n old → Reaches (length ns) old → Moves ns tags max old new s u result
+
+-- the value that comes next is read on as v reads it
+pub record Enters (ns : List Node) (tags : List ℕ) (v : (ℕ → Reading) → Reading) (old new : Open) : Type 0 where
+  pub same : (m : ℕ) (reading : ℕ → Reading) (s t : List ℕ) → AreRead m ns tags reading → next_of old.top.left ≢ next.Nothing
+      → next_reads m reading (next_of old.top.left) s ≡ v reading t → opened m reading old s ≡ opened m reading new t
+  pub reaches : Reaches (length ns) old → Reaches (length ns) new
+
+-- reading up to the whole value
+abbrev pub Ends : Reading → Reading → List ℕ → List ℕ → Result Value Stop → Type 0
+Ends before after old new (Ok v) = (x : List ℕ) → before (old ++ x) ≡ whole v (new ++ x)
+Ends before after old new (Err stop.More) = ((x : List ℕ) → before (old ++ x) ≡ after (new ++ x)) × (after new ≡ more)
+Ends before after old new (Err (stop.Bad w)) = (x : List ℕ) → before (old ++ x) ≡ bad (length (new ++ x)) w
+Ends before after old new (Err stop.OutOfMemory) = Unit {0}
