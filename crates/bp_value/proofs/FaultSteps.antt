@@ -12,6 +12,7 @@ use Rattle.bp_value.specs.declared.fault.ShapeFault.TheVariants.{TooDeep, EmptyS
 use Rattle.bp_value.specs.Form.{Form, Parts, tuple, named_parts, cases}
 use Rattle.bp_value.specs.Limits.{deepest_shape, most_members}
 use Rattle.bp_value.specs.Names.{IsShapeName, IsFirstBadName, IsDistinct, IsFirstRepeat}
+use Rattle.bp_value.proofs.Distinct.{none_distinct}
 use Rattle.bp_value.proofs.Good.{root}
 use Rattle.bp_value.specs.Faults.{nodes, part_nodes, case_nodes, member_count, names, tags, IsTuple, IsRecord, IsVariant, HasFault, number, IsFaultless, IsFaultOf, IsFirstIn, TellsNodes, TellsNode, TellsCount, TellsNames, IsFaultOfNames, part_names}
 
@@ -112,9 +113,6 @@ module _ (d : ℕ) (f : Form) (deep : d ≤ deepest_shape) (cases_there : IsVari
         pub faultless : IsDistinct (tags f) → IsFaultless (d, f)
         faultless other_tags x h = clean 9 d f deep (λ l. cases_there) (λ l. parts_there) (λ l. fields_there)
             (λ l. few) (λ l. named) (λ l. other_names) (λ l. other_tags) x (most x) h
-
-pub none_distinct : {A : Type 0} → IsDistinct {A = A} []
-none_distinct a b lt within = absurd (let n : b < 0 = within in omega arith)
 
 -- ---- one first fault
 

@@ -1,5 +1,5 @@
 -- What an answer on a part says of the whole.
-use Rattle.std.proofs.Common.{◌≡◌, ℕ, zero, suc, ◌+◌, ◌<◌, ◌≤◌, Bool, true, false, IsTrue, ◌↔◌, ◌⊎◌, inl, inr, List, [], ◌∷◌, map, length, take, drop, get_or, slice_get, Option, Some, None, refl, sym, ap, ◌∙◌, subst, arith, rules}
+use Rattle.std.proofs.Common.{◌≡◌, ℕ, zero, suc, ◌+◌, ◌<◌, ◌≤◌, Bool, true, false, IsTrue, ◌↔◌, ◌⊎◌, inl, inr, List, [], ◌∷◌, map, length, take, drop, get_or, slice_get, Option, Some, None, refl, sym, ap, ◌∙◌, subst, arith}
 use lib.Dec.{leb, eqb}
 use Rattle.std.specs.List.{All}
 use Rattle.std.specs.Option.{option_map}
@@ -7,14 +7,13 @@ use Rattle.std.proofs.lemmas.Bool.{le-leb, leb-true, eqb-true, ne_eqb, true≢fa
 use Rattle.std.proofs.lemmas.List.{take_all, length-map}
 use Rattle.std.proofs.lemmas.Option.{slice_get-map, slice_get_within, get_or_from_slice_get}
 use Rattle.std.proofs.lemmas.List.Elements.{All-more, All-get_or}
-use Rattle.bp_value.specs.declared.value.Sexp.{Sexp, out-Sexp, the_lemmas}
+use Rattle.bp_value.specs.declared.value.Sexp.{Sexp}
 use Rattle.bp_value.specs.declared.value.Sexp.TheVariants as sx
-use Rattle.bp_value.specs.declared.value.Sexp.TheOpen as sexp_layer
-use Rattle.bp_value.specs.declared.value.Value.{Value, out-Value, the_lemmas as value_lemmas}
+use Rattle.bp_value.specs.declared.value.Value.{Value}
 use Rattle.bp_value.specs.declared.value.Value.TheVariants as val
-use Rattle.bp_value.specs.declared.value.Value.TheOpen as layer
 use Rattle.bp_value.specs.declared.shape.Shape.{Shape}
 use Rattle.bp_value.specs.Form.{form_of, Form, Parts, named_parts, cases, argument}
+use Rattle.bp_value.proofs.Layers.{atom_is, list_is, atom_no_list, present_is, present_there, case_place, case_is}
 use Rattle.bp_value.specs.Fits.{FitsSexp, Fits, FitParts, FitCase, IsMade}
 
 module _ {X : Type 0} (P : X → Type 0) (xs : List X) (i : ℕ) where
@@ -48,21 +47,6 @@ above P xs n m e lt = (λ t. absurd (let le : n ≤ m = leb-true n m t in omega 
 
 -- ---- S-expressions
 
-pub out_atom : (t : List ℕ) → out-Sexp (sx.Atom t) ≡ sexp_layer.Atom t
-out_atom t = search (rules, the_lemmas)
-
-pub out_list : (ss : List Sexp) → out-Sexp (sx.List ss) ≡ sexp_layer.List ss
-out_list ss = search (rules, the_lemmas)
-
-pub atom_is : (t u : List ℕ) → sx.Atom t ≡ sx.Atom u → t ≡ u
-atom_is t u e = let same : sexp_layer.Atom t ≡ sexp_layer.Atom u = sym (out_atom t) ∙ ap out-Sexp e ∙ out_atom u in cc
-
-pub list_is : (ss us : List Sexp) → sx.List ss ≡ sx.List us → ss ≡ us
-list_is ss us e = let same : sexp_layer.List ss ≡ sexp_layer.List us = sym (out_list ss) ∙ ap out-Sexp e ∙ out_list us in cc
-
-pub atom_no_list : (t : List ℕ) (ss : List Sexp) → sx.Atom t ≡ sx.List ss → ⊥
-atom_no_list t ss e = let same : sexp_layer.Atom t ≡ sexp_layer.List ss = sym (out_atom t) ∙ ap out-Sexp e ∙ out_list ss in cc
-
 pub sexp_none : (m d : ℕ) (s : Sexp) → d ≡ 0 → (IsTrue false ↔ FitsSexp m d s)
 unfolding FitsSexp
 sexp_none m d s e = rw e (λ t. absurd (true≢false (sym t)), λ p. absurd p)
@@ -89,39 +73,6 @@ module _ (m d e : ℕ) (ss : List Sexp) (s : Sexp) (b : Bool) (deep : d ≡ suc 
   )
 
 -- ---- values
-
-pub out_absent : out-Value val.Absent ≡ layer.Absent
-out_absent = search (rules, value_lemmas)
-
-pub out_present : (v : Value) → out-Value (val.Present v) ≡ layer.Present v
-out_present v = search (rules, value_lemmas)
-
-pub out_items : (vs : List Value) → out-Value (val.Items vs) ≡ layer.Items vs
-out_items vs = search (rules, value_lemmas)
-
-pub out_parts : (vs : List Value) → out-Value (val.Parts vs) ≡ layer.Parts vs
-out_parts vs = search (rules, value_lemmas)
-
-pub out_case : (p : ℕ) (vs : List Value) → out-Value (val.Case p vs) ≡ layer.Case p vs
-out_case p vs = search (rules, value_lemmas)
-
-pub present_is : (v w : Value) → val.Present v ≡ val.Present w → v ≡ w
-present_is v w e = let same : layer.Present v ≡ layer.Present w = sym (out_present v) ∙ ap out-Value e ∙ out_present w in cc
-
-pub present_there : (v : Value) → val.Present v ≡ val.Absent → ⊥
-present_there v e = let same : layer.Present v ≡ layer.Absent = sym (out_present v) ∙ ap out-Value e ∙ out_absent in cc
-
-pub items_is : (vs ws : List Value) → val.Items vs ≡ val.Items ws → vs ≡ ws
-items_is vs ws e = let same : layer.Items vs ≡ layer.Items ws = sym (out_items vs) ∙ ap out-Value e ∙ out_items ws in cc
-
-pub parts_is : (vs ws : List Value) → val.Parts vs ≡ val.Parts ws → vs ≡ ws
-parts_is vs ws e = let same : layer.Parts vs ≡ layer.Parts ws = sym (out_parts vs) ∙ ap out-Value e ∙ out_parts ws in cc
-
-pub case_place : (p q : ℕ) (vs ws : List Value) → val.Case p vs ≡ val.Case q ws → p ≡ q
-case_place p q vs ws e = let same : layer.Case p vs ≡ layer.Case q ws = sym (out_case p vs) ∙ ap out-Value e ∙ out_case q ws in cc
-
-pub case_is : (p q : ℕ) (vs ws : List Value) → val.Case p vs ≡ val.Case q ws → vs ≡ ws
-case_is p q vs ws e = let same : layer.Case p vs ≡ layer.Case q ws = sym (out_case p vs) ∙ ap out-Value e ∙ out_case q ws in cc
 
 module _ (P : Value → Type 0) (v : Value) where
   pub absent_fits : v ≡ val.Absent → (IsTrue true ↔ ((v ≡ val.Absent) ⊎ IsMade val.Present P v))
@@ -179,18 +130,26 @@ parts_step m (suc i) [] vs p v e f = absurd cc
 parts_step m (suc i) (q ∷ ps) [] p v e f = absurd cc
 parts_step m (suc i) (q ∷ ps) (w ∷ vs) p v e f = parts_step m i ps vs p v e f
 
+-- the case at a place, where there is one, and where there is none
+pub case_at : (m p : ℕ) (cs : List (List ℕ × Parts)) (c : List ℕ × Parts) (vs : List Value) → slice_get cs p ≡ Some c
+    → (FitCase m (cases cs) p vs ↔ FitParts m c.1 vs)
+unfolding FitCase
+case_at m p [] c vs e = absurd cc
+case_at m zero (d ∷ cs) c vs e = let a = some_is d c e in rw a (λ h. h, λ h. h)
+case_at m (suc p) (d ∷ cs) c vs e = case_at m p cs c vs e
+
+pub no_case_at : (m p : ℕ) (cs : List (List ℕ × Parts)) (vs : List Value) → slice_get cs p ≡ None → FitCase m (cases cs) p vs → ⊥
+unfolding FitCase
+no_case_at m p [] vs e f = f
+no_case_at m zero (d ∷ cs) vs e f = absurd cc
+no_case_at m (suc p) (d ∷ cs) vs e f = no_case_at m p cs vs e f
+
 pub case_here : (m p : ℕ) (cs : List (List ℕ × Parts)) (c : List ℕ × Parts) (vs : List Value) (b : Bool) → slice_get cs p ≡ Some c
     → (IsTrue b ↔ FitParts m c.1 vs) → (IsTrue b ↔ FitCase m (cases cs) p vs)
-unfolding FitCase
-case_here m p [] c vs b e h = absurd cc
-case_here m zero (d ∷ cs) c vs b e h = let a = some_is d c e in rw a h
-case_here m (suc p) (d ∷ cs) c vs b e h = case_here m p cs c vs b e h
+case_here m p cs c vs b e h = let at = case_at m p cs c vs e in (λ t. at.1 (h.0 t), λ f. h.1 (at.0 f))
 
 pub case_nowhere : (m p : ℕ) (cs : List (List ℕ × Parts)) (vs : List Value) → slice_get cs p ≡ None → (IsTrue false ↔ FitCase m (cases cs) p vs)
-unfolding FitCase
-case_nowhere m p [] vs e = (λ t. absurd (true≢false (sym t)), λ f. absurd f)
-case_nowhere m zero (d ∷ cs) vs e = absurd cc
-case_nowhere m (suc p) (d ∷ cs) vs e = case_nowhere m p cs vs e
+case_nowhere m p cs vs e = (λ t. absurd (true≢false (sym t)), λ f. absurd (no_case_at m p cs vs e f))
 
 -- ---- a loop over parts, of which `Left i` says that those from i on fit
 

@@ -1,15 +1,17 @@
 -- What a good shape gives to those that go down it: bounds, names and tags at a node, and good children.
-use Rattle.std.proofs.Common.{◌≡◌, ℕ, zero, suc, ◌+◌, ◌<◌, ◌≤◌, ◌⊎◌, inl, inr, List, [], ◌∷◌, ◌++◌, length, take, get_or, slice_get, refl, subst, add-one, arith}
+use Rattle.std.proofs.Common.{◌≡◌, ℕ, zero, suc, ◌+◌, ◌<◌, ◌≤◌, ◌⊎◌, inl, inr, List, [], ◌∷◌, ◌++◌, map, length, take, get_or, slice_get, Some, refl, subst, add-one, arith}
 use Rattle.std.specs.List.{All}
 use Rattle.std.proofs.lemmas.Bool.{cases_lt, cases_order}
-use Rattle.std.proofs.lemmas.List.{take_all}
+use Rattle.std.proofs.lemmas.List.{take_all, length-map}
 use Rattle.std.proofs.lemmas.List.Elements.{All-nil, All-cons, All-head, All-tail, All-more}
 use Rattle.std.proofs.lemmas.Option.{slice_get-get_or}
 use Rattle.bp_value.specs.declared.fault.ShapeFault.TheVariants.{TooDeep, EmptySum, ShortTuple, EmptyFields, TooMany, BadName, SameName, TagClash}
-use Rattle.bp_value.specs.Form.{Form, Parts, Cases, unit, bool, char, int, int32, int64, text, opt, listed, tuple, fields, sum, poly, sexp, part, case}
+use Rattle.bp_value.specs.Form.{Form, Parts, Cases, unit, bool, char, int, int32, int64, text, opt, listed, tuple, fields, sum, poly, sexp, part, case, named_parts, cases}
+use Rattle.bp_value.specs.Tags.{tag_of}
 use Rattle.bp_value.specs.Limits.{deepest_shape, most_members, longest_name}
-use Rattle.bp_value.specs.Names.{IsShapeName, IsNameStart, IsNameByte, IsFirstBadName, IsDistinct, IsFirstRepeat}
-use Rattle.bp_value.specs.Faults.{nodes, part_nodes, case_nodes, member_count, names, tags, IsTuple, IsRecord, IsVariant, IsFaultless, IsGood}
+use Rattle.bp_value.specs.Names.{IsShapeName, IsNameStart, IsNameByte, IsFirstBadName, IsDistinct}
+use Rattle.bp_value.proofs.Distinct.{distinct}
+use Rattle.bp_value.specs.Faults.{nodes, part_nodes, case_nodes, member_count, names, tags, IsTuple, IsRecord, IsVariant, IsFaultless, IsGood, part_names, case_names}
 
 abbrev pub AreGood : List (ℕ × Form) → Type 0
 AreGood ns = All IsFaultless ns
@@ -81,30 +83,22 @@ pub good_case : (d : ℕ) (name : List ℕ) (fs : Parts) (cs : Cases) → AreGoo
 unfolding case_nodes
 good_case d name fs cs all = (front_good (part_nodes d fs) (case_nodes d cs) all, back_good (part_nodes d fs) (case_nodes d cs) all)
 
--- ---- lists without repeats, and of names
+-- the part at a place, and the case at a place
+pub good_part_at : (d i : ℕ) (ps : List (List ℕ × Form)) (p : List ℕ × Form) → slice_get ps i ≡ Some p
+    → AreGood (part_nodes d (named_parts ps)) → AreGood (nodes d p.1)
+good_part_at d i [] p e all = absurd cc
+good_part_at d zero (q ∷ ps) p e all =
+    let same : q ≡ p = cc in subst (λ x. AreGood (nodes d x.1)) same (good_part d q.0 q.1 (named_parts ps) all).0
+good_part_at d (suc i) (q ∷ ps) p e all = good_part_at d i ps p e (good_part d q.0 q.1 (named_parts ps) all).1
 
--- where nothing is the first repeat, nothing repeats
-module _ {A : Type 0} (xs : List A) (none : (i j : ℕ) → IsFirstRepeat xs i j → ⊥) where
-  -- nothing before i is the item at j, where nothing before j repeats
-  new_at : (j i : ℕ) → j < length xs → ((a b : ℕ) → a < b → b < j → slice_get xs a ≡ slice_get xs b → ⊥)
-      → (k : ℕ) → k < i → k < j → slice_get xs k ≡ slice_get xs j → ⊥
-  new_at j zero within before k lt below same = absurd (omega arith)
-  new_at j (suc i) within before k lt below same = elim (cases_lt k i) [
-    | inl less ↦ new_at j i within before k less below same
-    | inr ge ↦ let e : k ≡ i = omega arith in
-        none k j (record { before = below; within = within; same = same; least_first = λ a l. new_at j i within before a (omega arith) (omega arith); least_second = before })
-  ]
+pub good_case_at : (d i : ℕ) (cs : List (List ℕ × Parts)) (c : List ℕ × Parts) → slice_get cs i ≡ Some c
+    → AreGood (case_nodes d (cases cs)) → AreGood (part_nodes d c.1)
+good_case_at d i [] c e all = absurd cc
+good_case_at d zero (q ∷ cs) c e all =
+    let same : q ≡ c = cc in subst (λ x. AreGood (part_nodes d x.1)) same (good_case d q.0 q.1 (cases cs) all).0
+good_case_at d (suc i) (q ∷ cs) c e all = good_case_at d i cs c e (good_case d q.0 q.1 (cases cs) all).1
 
-  distinct_below : (n : ℕ) → n ≤ length xs → (a b : ℕ) → a < b → b < n → slice_get xs a ≡ slice_get xs b → ⊥
-  distinct_below zero in_list a b lt below same = absurd (omega arith)
-  distinct_below (suc n) in_list a b lt below same = elim (cases_lt b n) [
-    | inl less ↦ distinct_below n (omega arith) a b lt less same
-    | inr ge ↦ let e : b ≡ n = omega arith in
-        new_at b b (omega arith) (λ c d l m. distinct_below n (omega arith) c d l (omega arith)) a lt lt same
-  ]
-
-  pub distinct : IsDistinct xs
-  distinct a b lt within same = distinct_below (length xs) (omega arith) a b lt within same
+-- ---- lists of names
 
 either : {A B : Type 0} → A ⊎ (A → ⊥) → B ⊎ (B → ⊥) → (A ⊎ B) ⊎ (A ⊎ B → ⊥)
 either (inl a) b = inl (inl a)
@@ -187,3 +181,44 @@ module _ (d : ℕ) (f : Form) (less : IsFaultless (d, f)) where
 
   pub distinct_tags : IsDistinct (tags f)
   distinct_tags = distinct (tags f) (λ i j clash. less (TagClash i j) clash)
+
+-- ---- how many members a good node has
+
+pub case_names-cases : (cs : List (List ℕ × Parts)) → case_names (cases cs) ≡ map (λ c. c.0) cs
+case_names-cases [] = refl
+case_names-cases (c ∷ cs) = λ i. c.0 ∷ case_names-cases cs i
+
+pub part_names-named_parts : (ps : List (List ℕ × Form)) → part_names (named_parts ps) ≡ map (λ p. p.0) ps
+part_names-named_parts [] = refl
+part_names-named_parts (p ∷ ps) = λ i. p.0 ∷ part_names-named_parts ps i
+
+-- the cases of a variant are some, and few
+module _ (d : ℕ) (cs : List (List ℕ × Parts)) where
+  count_is : length (case_names (cases cs)) ≡ length cs
+  count_is = rw (case_names-cases cs) (length-map cs (λ c. c.0))
+
+  pub sum_count : IsFaultless (d, sum (cases cs)) → (0 < length cs) × (length cs ≤ most_members)
+  sum_count less = rw (← count_is) (some_cases d (sum (cases cs)) less tt, few_members d (sum (cases cs)) less)
+
+  pub poly_count : IsFaultless (d, poly (cases cs)) → (0 < length cs) × (length cs ≤ most_members)
+  poly_count less = rw (← count_is) (some_cases d (poly (cases cs)) less tt, few_members d (poly (cases cs)) less)
+
+-- the cases of a polymorphic variant have tags of their own
+tags_are : (cs : List (List ℕ × Parts)) → map tag_of (case_names (cases cs)) ≡ map (λ c. tag_of c.0) cs
+tags_are [] = refl
+tags_are (c ∷ cs) = λ i. tag_of c.0 ∷ tags_are cs i
+
+pub poly_distinct : (d : ℕ) (cs : List (List ℕ × Parts)) → IsFaultless (d, poly (cases cs))
+    → IsDistinct (map (λ c. tag_of c.0) cs)
+poly_distinct d cs less = subst IsDistinct (tags_are cs) (distinct_tags d (poly (cases cs)) less)
+
+-- the parts of a tuple are two or more, the fields of a record one or more, and both few
+module _ (d : ℕ) (ps : List (List ℕ × Form)) where
+  size_is : length (part_names (named_parts ps)) ≡ length ps
+  size_is = rw (part_names-named_parts ps) (length-map ps (λ p. p.0))
+
+  pub tuple_count : IsFaultless (d, tuple (named_parts ps)) → (2 ≤ length ps) × (length ps ≤ most_members)
+  tuple_count less = rw (← size_is) (two_parts d (tuple (named_parts ps)) less tt, few_members d (tuple (named_parts ps)) less)
+
+  pub fields_count : IsFaultless (d, fields (named_parts ps)) → (0 < length ps) × (length ps ≤ most_members)
+  fields_count less = rw (← size_is) (some_fields d (fields (named_parts ps)) less tt, few_members d (fields (named_parts ps)) less)

@@ -1,6 +1,9 @@
+pub mod Distinct
 pub mod FaultSteps
 pub mod FitSteps
+pub mod Fitted
 pub mod Forms
 pub mod Good
+pub mod Layers
 pub mod Members
 pub mod TagSteps

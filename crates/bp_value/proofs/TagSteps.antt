@@ -2,6 +2,7 @@
 use Rattle.std.proofs.Common.{Bool, true, false, pos, ◌+ℤ◌, ◌-ℤ◌, ◌*ℤ◌, nat_lt, if◌then◌else◌, w32, ◌≡◌, ℕ, suc, ◌+◌, ◌*◌, ◌^◌, ◌%◌, ◌<◌, ◌≤◌, List, [], ◌∷◌, ◌++◌, length, take, get_or, refl, ap, ◌∙◌, arith, pow-suc, sym}
 use Rattle.std.proofs.lemmas.List.{take_more}
 use Rattle.std.proofs.lemmas.Nat.{mul-mod_first}
+use lib.Signed.{mag}
 use mir.Val.{SFits}
 use Rattle.std.proofs.lemmas.Bool.{ltb-true, ltb-false}
 use Rattle.std.proofs.lemmas.Int.{ints}
@@ -33,3 +34,7 @@ low_fits h false e lt = let above : 1073741824 ≤ h = ltb-false h 1073741824 (s
 -- a tag is a number of 32 bits
 pub tag_fits : (name : List ℕ) → SFits w32 (tag_of name)
 tag_fits name = low_fits (name_number name % 2147483648) _ refl (omega arith)
+
+-- and so is below 2 ^ 31 by its distance from 0, or from -1
+pub tag_within : (name : List ℕ) → mag (tag_of name) < 2 ^ 31
+tag_within name = (tag_fits name).sfits

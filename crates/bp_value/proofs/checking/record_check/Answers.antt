@@ -4,7 +4,8 @@ use Rattle.std.proofs.lemmas.Result.{err_from_is_err_and}
 use Rattle.bp_value.specs.Limits.{most_members}
 use Rattle.bp_value.specs.Form.{field_form, named_parts, fields}
 use Rattle.bp_value.specs.Faults.{TellsNames}
-use Rattle.bp_value.proofs.FaultSteps.{count_fault, named_tells, none_distinct, there}
+use Rattle.bp_value.proofs.Distinct.{none_distinct}
+use Rattle.bp_value.proofs.FaultSteps.{count_fault, named_tells, there}
 use Rattle.bp_value.proofs.Members.{part_count, record_names}
 use Rattle.bp_value.proofs.checking.record_check.Goals as goal
 

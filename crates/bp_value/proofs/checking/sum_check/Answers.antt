@@ -4,7 +4,8 @@ use Rattle.std.proofs.lemmas.Result.{err_from_is_err_and}
 use Rattle.bp_value.specs.Limits.{most_members}
 use Rattle.bp_value.specs.Form.{case_form, cases, sum}
 use Rattle.bp_value.specs.Faults.{TellsNames}
-use Rattle.bp_value.proofs.FaultSteps.{count_fault, named_tells, none_distinct, there}
+use Rattle.bp_value.proofs.Distinct.{none_distinct}
+use Rattle.bp_value.proofs.FaultSteps.{count_fault, named_tells, there}
 use Rattle.bp_value.proofs.Members.{case_count, sum_names}
 use Rattle.bp_value.proofs.checking.sum_check.Goals as goal
 

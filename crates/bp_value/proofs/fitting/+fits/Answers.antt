@@ -8,7 +8,8 @@ use Rattle.bp_value.specs.declared.value.Value.TheVariants as val
 use Rattle.bp_value.specs.Form.{form_of, field_form, case_form, poly_form, unnamed, cases}
 use Rattle.bp_value.specs.Fits.{Fits, FitParts, FitCase}
 use Rattle.bp_value.proofs.Forms.{form_of-Unit, form_of-Bool, form_of-Char, form_of-Int, form_of-Int32, form_of-Int64, form_of-Text, form_of-Opt, form_of-List, form_of-Tuple, form_of-Fields, form_of-Sum, form_of-Poly, form_of-Sexp}
-use Rattle.bp_value.proofs.FitSteps.{made_so, not_made, within, above, absent_fits, present_fits, no_option, case_fits, no_case, items_is, parts_is, case_here, case_nowhere, all_more, all_done, lengths_differ, no_more, goes_on, stops, no_argument, one_argument, no_one}
+use Rattle.bp_value.proofs.Layers.{items_is, parts_is}
+use Rattle.bp_value.proofs.FitSteps.{made_so, not_made, within, above, absent_fits, present_fits, no_option, case_fits, no_case, case_here, case_nowhere, all_more, all_done, lengths_differ, no_more, goes_on, stops, no_argument, one_argument, no_one}
 use Rattle.bp_value.proofs.fitting.+fits.Goals as goal
 
 pub fields_fit-returns-then-fields-values : goal.fields_fit-returns-then-fields-values

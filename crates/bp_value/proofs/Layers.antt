@@ -1,0 +1,109 @@
+-- Values and S-expressions one layer at a time: which variant one is, and that a variant's fields are its own.
+use Rattle.std.proofs.Common.{◌≡◌, ℕ, ℤ, Bool, List, sym, ap, ◌∙◌, rules}
+use Rattle.bp_value.specs.declared.value.Sexp.{Sexp, out-Sexp, the_lemmas}
+use Rattle.bp_value.specs.declared.value.Sexp.TheVariants as sx
+use Rattle.bp_value.specs.declared.value.Sexp.TheOpen as sexp_layer
+use Rattle.bp_value.specs.declared.value.Value.{Value, out-Value, the_lemmas as value_lemmas}
+use Rattle.bp_value.specs.declared.value.Value.TheVariants as val
+use Rattle.bp_value.specs.declared.value.Value.TheOpen as layer
+
+-- ---- S-expressions
+
+pub out_atom : (t : List ℕ) → out-Sexp (sx.Atom t) ≡ sexp_layer.Atom t
+out_atom t = search (rules, the_lemmas)
+
+pub out_list : (ss : List Sexp) → out-Sexp (sx.List ss) ≡ sexp_layer.List ss
+out_list ss = search (rules, the_lemmas)
+
+pub atom_is : (t u : List ℕ) → sx.Atom t ≡ sx.Atom u → t ≡ u
+atom_is t u e =
+    let same : sexp_layer.Atom t ≡ sexp_layer.Atom u = sym (out_atom t) ∙ ap out-Sexp e ∙ out_atom u in cc
+
+pub list_is : (ss us : List Sexp) → sx.List ss ≡ sx.List us → ss ≡ us
+list_is ss us e =
+    let same : sexp_layer.List ss ≡ sexp_layer.List us = sym (out_list ss) ∙ ap out-Sexp e ∙ out_list us in cc
+
+pub atom_no_list : (t : List ℕ) (ss : List Sexp) → sx.Atom t ≡ sx.List ss → ⊥
+atom_no_list t ss e =
+    let same : sexp_layer.Atom t ≡ sexp_layer.List ss = sym (out_atom t) ∙ ap out-Sexp e ∙ out_list ss in cc
+
+-- ---- values: the layer of each variant
+
+pub out_unit : out-Value val.Unit ≡ layer.Unit
+out_unit = search (rules, value_lemmas)
+
+pub out_absent : out-Value val.Absent ≡ layer.Absent
+out_absent = search (rules, value_lemmas)
+
+pub out_bool : (b : Bool) → out-Value (val.Bool b) ≡ layer.Bool b
+out_bool b = search (rules, value_lemmas)
+
+pub out_char : (b : ℕ) → out-Value (val.Char b) ≡ layer.Char b
+out_char b = search (rules, value_lemmas)
+
+pub out_num : (n : ℤ) → out-Value (val.Num n) ≡ layer.Num n
+out_num n = search (rules, value_lemmas)
+
+pub out_text : (t : List ℕ) → out-Value (val.Text t) ≡ layer.Text t
+out_text t = search (rules, value_lemmas)
+
+pub out_present : (v : Value) → out-Value (val.Present v) ≡ layer.Present v
+out_present v = search (rules, value_lemmas)
+
+pub out_items : (vs : List Value) → out-Value (val.Items vs) ≡ layer.Items vs
+out_items vs = search (rules, value_lemmas)
+
+pub out_parts : (vs : List Value) → out-Value (val.Parts vs) ≡ layer.Parts vs
+out_parts vs = search (rules, value_lemmas)
+
+pub out_sexp : (s : Sexp) → out-Value (val.Sexp s) ≡ layer.Sexp s
+out_sexp s = search (rules, value_lemmas)
+
+pub out_case : (place : ℕ) (vs : List Value) → out-Value (val.Case place vs) ≡ layer.Case place vs
+out_case place vs = search (rules, value_lemmas)
+
+-- ---- one variant of two values has one content
+
+pub bool_is : (b c : Bool) → val.Bool b ≡ val.Bool c → b ≡ c
+bool_is b c e =
+    let same : layer.Bool b ≡ layer.Bool c = sym (out_bool b) ∙ ap out-Value e ∙ out_bool c in cc
+
+pub char_is : (b c : ℕ) → val.Char b ≡ val.Char c → b ≡ c
+char_is b c e =
+    let same : layer.Char b ≡ layer.Char c = sym (out_char b) ∙ ap out-Value e ∙ out_char c in cc
+
+pub num_is : (n m : ℤ) → val.Num n ≡ val.Num m → n ≡ m
+num_is n m e =
+    let same : layer.Num n ≡ layer.Num m = sym (out_num n) ∙ ap out-Value e ∙ out_num m in cc
+
+pub text_is : (t u : List ℕ) → val.Text t ≡ val.Text u → t ≡ u
+text_is t u e =
+    let same : layer.Text t ≡ layer.Text u = sym (out_text t) ∙ ap out-Value e ∙ out_text u in cc
+
+pub present_is : (v w : Value) → val.Present v ≡ val.Present w → v ≡ w
+present_is v w e =
+    let same : layer.Present v ≡ layer.Present w = sym (out_present v) ∙ ap out-Value e ∙ out_present w in cc
+
+pub items_is : (vs ws : List Value) → val.Items vs ≡ val.Items ws → vs ≡ ws
+items_is vs ws e =
+    let same : layer.Items vs ≡ layer.Items ws = sym (out_items vs) ∙ ap out-Value e ∙ out_items ws in cc
+
+pub parts_is : (vs ws : List Value) → val.Parts vs ≡ val.Parts ws → vs ≡ ws
+parts_is vs ws e =
+    let same : layer.Parts vs ≡ layer.Parts ws = sym (out_parts vs) ∙ ap out-Value e ∙ out_parts ws in cc
+
+pub sexp_is : (s u : Sexp) → val.Sexp s ≡ val.Sexp u → s ≡ u
+sexp_is s u e =
+    let same : layer.Sexp s ≡ layer.Sexp u = sym (out_sexp s) ∙ ap out-Value e ∙ out_sexp u in cc
+
+pub case_place : (p q : ℕ) (vs ws : List Value) → val.Case p vs ≡ val.Case q ws → p ≡ q
+case_place p q vs ws e =
+    let same : layer.Case p vs ≡ layer.Case q ws = sym (out_case p vs) ∙ ap out-Value e ∙ out_case q ws in cc
+
+pub case_is : (p q : ℕ) (vs ws : List Value) → val.Case p vs ≡ val.Case q ws → vs ≡ ws
+case_is p q vs ws e =
+    let same : layer.Case p vs ≡ layer.Case q ws = sym (out_case p vs) ∙ ap out-Value e ∙ out_case q ws in cc
+
+pub present_there : (v : Value) → val.Present v ≡ val.Absent → ⊥
+present_there v e =
+    let same : layer.Present v ≡ layer.Absent = sym (out_present v) ∙ ap out-Value e ∙ out_absent in cc
