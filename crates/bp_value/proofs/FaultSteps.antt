@@ -16,8 +16,10 @@ use Rattle.bp_value.proofs.Distinct.{none_distinct}
 use Rattle.bp_value.proofs.Good.{root}
 use Rattle.bp_value.specs.Faults.{nodes, part_nodes, case_nodes, member_count, names, tags, IsTuple, IsRecord, IsVariant, HasFault, number, IsFaultless, IsFaultOf, IsFirstIn, TellsNodes, TellsNode, TellsCount, TellsNames, IsFaultOfNames, part_names}
 
-pub all_at : {A : Type 0} (P : A → Type 0) (xs : List A) (i : ℕ) (x : A) → All P xs → slice_get xs i ≡ Some x → P x
-all_at P xs i x all e = subst P (get_or_from_slice_get xs i x x e) (All-get_or P xs i x (slice_get_within xs i x e) all)
+pub all_at : {A : Type 0} (P : A → Type 0) (xs : List A) (i : ℕ) (x : A) → All P xs
+    → slice_get xs i ≡ Some x → P x
+all_at P xs i x all e =
+    subst P (get_or_from_slice_get xs i x x e) (All-get_or P xs i x (slice_get_within xs i x e) all)
 
 least : (y : ShapeFault) → 1 ≤ number y
 least (TooDeep depth) = omega arith
@@ -41,49 +43,75 @@ most (TagClash first second) = omega arith
 
 -- no fault has a number below k
 module _ (k d : ℕ) (f : Form) (deep : d ≤ deepest_shape)
-    (cases_there : 2 < k → IsVariant f → 0 < member_count f) (parts_there : 3 < k → IsTuple f → 1 < member_count f) (fields_there : 4 < k → IsRecord f → 0 < member_count f)
-    (few : 5 < k → member_count f ≤ most_members) (named : 6 < k → All IsShapeName (names f)) (other_names : 7 < k → IsDistinct (names f)) (other_tags : 8 < k → IsDistinct (tags f)) where
+    (cases_there : 2 < k → IsVariant f → 0 < member_count f)
+    (parts_there : 3 < k → IsTuple f → 1 < member_count f)
+    (fields_there : 4 < k → IsRecord f → 0 < member_count f)
+    (few : 5 < k → member_count f ≤ most_members) (named : 6 < k → All IsShapeName (names f))
+    (other_names : 7 < k → IsDistinct (names f))
+    (other_tags : 8 < k → IsDistinct (tags f)) where
   clean : (y : ShapeFault) → number y < k → HasFault d f y → ⊥
   clean (TooDeep depth) lt h = let a : deepest_shape < d = h.1 in omega arith
-  clean EmptySum lt h = let a : 0 < member_count f = cases_there lt h.0 in let b : member_count f ≡ 0 = h.1 in omega arith
-  clean (ShortTuple count) lt h = let a : 1 < member_count f = parts_there lt h.0 in let b : count ≡ member_count f = h.1 in let c : count < 2 = h.2 in omega arith
-  clean EmptyFields lt h = let a : 0 < member_count f = fields_there lt h.0 in let b : member_count f ≡ 0 = h.1 in omega arith
-  clean (TooMany count) lt h = let a : member_count f ≤ most_members = few lt in let b : count ≡ member_count f = h.0 in let c : most_members < count = h.1 in omega arith
+  clean EmptySum lt h =
+      let a : 0 < member_count f = cases_there lt h.0 in let b : member_count f ≡ 0 = h.1 in
+      omega arith
+  clean (ShortTuple count) lt h =
+      let a : 1 < member_count f = parts_there lt h.0 in let b : count ≡ member_count f = h.1 in
+      let c : count < 2 = h.2 in omega arith
+  clean EmptyFields lt h =
+      let a : 0 < member_count f = fields_there lt h.0 in let b : member_count f ≡ 0 = h.1 in
+      omega arith
+  clean (TooMany count) lt h =
+      let a : member_count f ≤ most_members = few lt in let b : count ≡ member_count f = h.0 in
+      let c : most_members < count = h.1 in omega arith
   clean (BadName place) lt h = h.bad (all_at IsShapeName (names f) place h.name (named lt) h.stands)
   clean (SameName first second) lt h = other_names lt first second h.before h.within h.same
   clean (TagClash first second) lt h = other_tags lt first second h.before h.within h.same
 
 pub too_deep : (d : ℕ) (f : Form) → deepest_shape < d → IsFaultOf (d, f) (TooDeep d)
-too_deep d f lt = ((refl, lt), λ y below h. absurd (let a : 1 ≤ number y = least y in let b : number y < 1 = below in omega arith))
-
-pub empty_sum : (d : ℕ) (f : Form) → d ≤ deepest_shape → IsVariant f → member_count f ≡ 0 → IsFaultOf (d, f) EmptySum
-empty_sum d f deep v none = (
-  (v, none),
-  clean 2 d f deep (λ l. absurd (omega arith)) (λ l. absurd (omega arith)) (λ l. absurd (omega arith))
-      (λ l. absurd (omega arith)) (λ l. absurd (omega arith)) (λ l. absurd (omega arith)) (λ l. absurd (omega arith)),
+too_deep d f lt = (
+  (refl, lt),
+  λ y below h. absurd (let a : 1 ≤ number y = least y in
+      let b : number y < 1 = below in omega arith),
 )
 
-pub short_tuple : (d n : ℕ) (f : Form) → d ≤ deepest_shape → IsTuple f → (IsVariant f → ⊥) → n ≡ member_count f → n < 2 → IsFaultOf (d, f) (ShortTuple n)
+pub empty_sum : (d : ℕ) (f : Form) → d ≤ deepest_shape → IsVariant f → member_count f ≡ 0
+    → IsFaultOf (d, f) EmptySum
+empty_sum d f deep v none = (
+  (v, none),
+  clean 2 d f deep
+      (λ l. absurd (omega arith)) (λ l. absurd (omega arith)) (λ l. absurd (omega arith))
+      (λ l. absurd (omega arith)) (λ l. absurd (omega arith)) (λ l. absurd (omega arith))
+      (λ l. absurd (omega arith)),
+)
+
+pub short_tuple : (d n : ℕ) (f : Form) → d ≤ deepest_shape → IsTuple f → (IsVariant f → ⊥)
+    → n ≡ member_count f → n < 2 → IsFaultOf (d, f) (ShortTuple n)
 short_tuple d n f deep t other e short = (
   (t, e, short),
   clean 3 d f deep (λ l v. absurd (other v)) (λ l. absurd (omega arith)) (λ l. absurd (omega arith))
-      (λ l. absurd (omega arith)) (λ l. absurd (omega arith)) (λ l. absurd (omega arith)) (λ l. absurd (omega arith)),
+      (λ l. absurd (omega arith)) (λ l. absurd (omega arith)) (λ l. absurd (omega arith))
+      (λ l. absurd (omega arith)),
 )
 
-pub empty_fields : (d : ℕ) (f : Form) → d ≤ deepest_shape → IsRecord f → (IsVariant f → ⊥) → (IsTuple f → ⊥) → member_count f ≡ 0 → IsFaultOf (d, f) EmptyFields
+pub empty_fields : (d : ℕ) (f : Form) → d ≤ deepest_shape → IsRecord f → (IsVariant f → ⊥)
+    → (IsTuple f → ⊥) → member_count f ≡ 0 → IsFaultOf (d, f) EmptyFields
 empty_fields d f deep r other another none = (
   (r, none),
   clean 4 d f deep (λ l v. absurd (other v)) (λ l t. absurd (another t)) (λ l. absurd (omega arith))
-      (λ l. absurd (omega arith)) (λ l. absurd (omega arith)) (λ l. absurd (omega arith)) (λ l. absurd (omega arith)),
+      (λ l. absurd (omega arith)) (λ l. absurd (omega arith)) (λ l. absurd (omega arith))
+      (λ l. absurd (omega arith)),
 )
 
 -- a node that is not too deep, with members enough
-module _ (d : ℕ) (f : Form) (deep : d ≤ deepest_shape) (cases_there : IsVariant f → 0 < member_count f) (parts_there : IsTuple f → 1 < member_count f) (fields_there : IsRecord f → 0 < member_count f) where
+module _ (d : ℕ) (f : Form) (deep : d ≤ deepest_shape)
+    (cases_there : IsVariant f → 0 < member_count f) (parts_there : IsTuple f → 1 < member_count f)
+    (fields_there : IsRecord f → 0 < member_count f) where
   pub too_many : (n : ℕ) → n ≡ member_count f → most_members < n → IsFaultOf (d, f) (TooMany n)
   too_many n e many = (
     (e, many),
     clean 5 d f deep (λ l. cases_there) (λ l. parts_there) (λ l. fields_there)
-        (λ l. absurd (omega arith)) (λ l. absurd (omega arith)) (λ l. absurd (omega arith)) (λ l. absurd (omega arith)),
+        (λ l. absurd (omega arith)) (λ l. absurd (omega arith)) (λ l. absurd (omega arith))
+        (λ l. absurd (omega arith)),
   )
 
   module _ (few : member_count f ≤ most_members) where
@@ -91,7 +119,8 @@ module _ (d : ℕ) (f : Form) (deep : d ≤ deepest_shape) (cases_there : IsVari
     bad_name p bad = (
       bad,
       clean 6 d f deep (λ l. cases_there) (λ l. parts_there) (λ l. fields_there)
-          (λ l. few) (λ l. absurd (omega arith)) (λ l. absurd (omega arith)) (λ l. absurd (omega arith)),
+          (λ l. few) (λ l. absurd (omega arith)) (λ l. absurd (omega arith))
+          (λ l. absurd (omega arith)),
     )
 
     module _ (named : All IsShapeName (names f)) where
@@ -111,7 +140,8 @@ module _ (d : ℕ) (f : Form) (deep : d ≤ deepest_shape) (cases_there : IsVari
         )
 
         pub faultless : IsDistinct (tags f) → IsFaultless (d, f)
-        faultless other_tags x h = clean 9 d f deep (λ l. cases_there) (λ l. parts_there) (λ l. fields_there)
+        faultless other_tags x h =
+            clean 9 d f deep (λ l. cases_there) (λ l. parts_there) (λ l. fields_there)
             (λ l. few) (λ l. named) (λ l. other_names) (λ l. other_tags) x (most x) h
 
 -- ---- one first fault
@@ -122,32 +152,49 @@ taken (suc n) i [] lt = refl
 taken (suc n) zero (x ∷ xs) lt = refl
 taken (suc n) (suc i) (x ∷ xs) lt = taken n i xs (omega arith)
 
-first_bad_one : (ns : List (List ℕ)) (p q : ℕ) → IsFirstBadName ns p → IsFirstBadName ns q → p < q → ⊥
-first_bad_one ns p q a b lt = a.bad (all_at IsShapeName (take q ns) p a.name b.good_before (taken q p ns lt ∙ a.stands))
+first_bad_one : (ns : List (List ℕ)) (p q : ℕ) → IsFirstBadName ns p → IsFirstBadName ns q → p < q
+    → ⊥
+first_bad_one ns p q a b lt =
+    a.bad (all_at IsShapeName (take q ns) p a.name b.good_before (taken q p ns lt ∙ a.stands))
 
-first_repeat_second : {A : Type 0} (xs : List A) (i j k l : ℕ) → IsFirstRepeat xs i j → IsFirstRepeat xs k l → j ≡ l
+first_repeat_second : {A : Type 0} (xs : List A) (i j k l : ℕ) → IsFirstRepeat xs i j
+    → IsFirstRepeat xs k l → j ≡ l
 first_repeat_second xs i j k l a b = elim (cases_order j l) [
   | inl e ↦ e
-  | inr h ↦ elim h [ inl lt ↦ absurd (b.least_second i j a.before lt a.same) | inr lt ↦ absurd (a.least_second k l b.before lt b.same) ]
+  | inr h ↦ elim h [
+    | inl lt ↦ absurd (b.least_second i j a.before lt a.same)
+    | inr lt ↦ absurd (a.least_second k l b.before lt b.same)
+  ]
 ]
 
-first_repeat_first : {A : Type 0} (xs : List A) (i j k l : ℕ) → IsFirstRepeat xs i j → IsFirstRepeat xs k l → j ≡ l → i ≡ k
+first_repeat_first : {A : Type 0} (xs : List A) (i j k l : ℕ) → IsFirstRepeat xs i j
+    → IsFirstRepeat xs k l → j ≡ l → i ≡ k
 first_repeat_first xs i j k l a b e = elim (cases_order i k) [
   | inl same ↦ same
-  | inr h ↦ elim h [ inl lt ↦ absurd (b.least_first i lt (a.same ∙ ap (slice_get xs) e)) | inr lt ↦ absurd (a.least_first k lt (b.same ∙ ap (slice_get xs) (sym e))) ]
+  | inr h ↦ elim h [
+    | inl lt ↦ absurd (b.least_first i lt (a.same ∙ ap (slice_get xs) e))
+    | inr lt ↦ absurd (a.least_first k lt (b.same ∙ ap (slice_get xs) (sym e)))
+  ]
 ]
 
 first_bad_same : (ns : List (List ℕ)) (p q : ℕ) → IsFirstBadName ns p → IsFirstBadName ns q → p ≡ q
 first_bad_same ns p q a b = elim (cases_order p q) [
   | inl e ↦ e
-  | inr h ↦ elim h [ inl lt ↦ absurd (first_bad_one ns p q a b lt) | inr lt ↦ absurd (first_bad_one ns q p b a lt) ]
+  | inr h ↦ elim h [
+    | inl lt ↦ absurd (first_bad_one ns p q a b lt)
+    | inr lt ↦ absurd (first_bad_one ns q p b a lt)
+  ]
 ]
 
-repeats_same : (make : ℕ → ℕ → ShapeFault) {A : Type 0} (xs : List A) (i j k l : ℕ) → IsFirstRepeat xs i j → IsFirstRepeat xs k l → make i j ≡ make k l
-repeats_same make xs i j k l a b = let e = first_repeat_second xs i j k l a b in let f = first_repeat_first xs i j k l a b e in λ t. make (f t) (e t)
+repeats_same : (make : ℕ → ℕ → ShapeFault) {A : Type 0} (xs : List A) (i j k l : ℕ)
+    → IsFirstRepeat xs i j → IsFirstRepeat xs k l → make i j ≡ make k l
+repeats_same make xs i j k l a b =
+    let e = first_repeat_second xs i j k l a b in let f = first_repeat_first xs i j k l a b e in
+    λ t. make (f t) (e t)
 
 -- a node has at most one fault of a number
-one_of_number : (d : ℕ) (f : Form) (x y : ShapeFault) → HasFault d f x → HasFault d f y → number x ≡ number y → x ≡ y
+one_of_number : (d : ℕ) (f : Form) (x y : ShapeFault) → HasFault d f x → HasFault d f y
+    → number x ≡ number y → x ≡ y
 one_of_number d f (TooDeep a) (TooDeep b) h k e = ap TooDeep (h.0 ∙ sym k.0)
 one_of_number d f (TooDeep a) y h k e = absurd (omega arith)
 one_of_number d f EmptySum EmptySum h k e = refl
@@ -160,9 +207,11 @@ one_of_number d f (TooMany a) (TooMany b) h k e = ap TooMany (h.0 ∙ sym k.0)
 one_of_number d f (TooMany a) y h k e = absurd (omega arith)
 one_of_number d f (BadName a) (BadName b) h k e = ap BadName (first_bad_same (names f) a b h k)
 one_of_number d f (BadName a) y h k e = absurd (omega arith)
-one_of_number d f (SameName a b) (SameName a' b') h k e = repeats_same SameName (names f) a b a' b' h k
+one_of_number d f (SameName a b) (SameName a' b') h k e =
+    repeats_same SameName (names f) a b a' b' h k
 one_of_number d f (SameName a b) y h k e = absurd (omega arith)
-one_of_number d f (TagClash a b) (TagClash a' b') h k e = repeats_same TagClash (tags f) a b a' b' h k
+one_of_number d f (TagClash a b) (TagClash a' b') h k e =
+    repeats_same TagClash (tags f) a b a' b' h k
 one_of_number d f (TagClash a b) y h k e = absurd (omega arith)
 
 pub one_fault : (n : ℕ × Form) (x y : ShapeFault) → IsFaultOf n x → IsFaultOf n y → x ≡ y
@@ -185,15 +234,19 @@ not_both (n ∷ ns) x all (inr h) = not_both ns x (All-tail IsFaultless n ns all
 
 -- ---- what an answer tells
 
-pub tells_good : (ns : List (ℕ × Form)) (r : Result (Unit {0}) ShapeFault) → TellsNodes ns r → (IsOk r ↔ All IsFaultless ns)
+pub tells_good : (ns : List (ℕ × Form)) (r : Result (Unit {0}) ShapeFault) → TellsNodes ns r
+    → (IsOk r ↔ All IsFaultless ns)
 tells_good ns (Ok u) h = (λ t. h, λ all. refl)
 tells_good ns (Err x) h = (λ t. absurd cc, λ all. absurd (not_both ns x all h))
 
-pub tells_fault : (ns : List (ℕ × Form)) (r : Result (Unit {0}) ShapeFault) → TellsNodes ns r → (x : ShapeFault) → ((r ≡ Err x) ↔ IsFirstIn ns x)
+pub tells_fault : (ns : List (ℕ × Form)) (r : Result (Unit {0}) ShapeFault) → TellsNodes ns r
+    → (x : ShapeFault) → ((r ≡ Err x) ↔ IsFirstIn ns x)
 tells_fault ns (Ok u) h x = (λ e. absurd cc, λ f. absurd (not_both ns x h f))
-tells_fault ns (Err y) h x = (λ e. let same : y ≡ x = cc in subst (IsFirstIn ns) same h, λ f. ap Err (one_first ns y x h f))
+tells_fault ns (Err y) h x =
+    (λ e. let same : y ≡ x = cc in subst (IsFirstIn ns) same h, λ f. ap Err (one_first ns y x h f))
 
-pub node_tells : (n : ℕ × Form) (ns : List (ℕ × Form)) (r : Result (Unit {0}) ShapeFault) → IsFaultless n → TellsNodes ns r → TellsNodes (n ∷ ns) r
+pub node_tells : (n : ℕ × Form) (ns : List (ℕ × Form)) (r : Result (Unit {0}) ShapeFault)
+    → IsFaultless n → TellsNodes ns r → TellsNodes (n ∷ ns) r
 node_tells n ns (Ok u) less h = All-cons IsFaultless n ns less h
 node_tells n ns (Err x) less h = inr (less, h)
 
@@ -202,18 +255,23 @@ first_left [] ys x h = absurd h
 first_left (n ∷ xs) ys x (inl h) = inl h
 first_left (n ∷ xs) ys x (inr h) = inr (h.0, first_left xs ys x h.1)
 
-first_right : (xs ys : List (ℕ × Form)) (x : ShapeFault) → All IsFaultless xs → IsFirstIn ys x → IsFirstIn (xs ++ ys) x
+first_right : (xs ys : List (ℕ × Form)) (x : ShapeFault) → All IsFaultless xs → IsFirstIn ys x
+    → IsFirstIn (xs ++ ys) x
 first_right [] ys x all h = h
-first_right (n ∷ xs) ys x all h = inr (All-head IsFaultless n xs all, first_right xs ys x (All-tail IsFaultless n xs all) h)
+first_right (n ∷ xs) ys x all h =
+    inr (All-head IsFaultless n xs all, first_right xs ys x (All-tail IsFaultless n xs all) h)
 
 -- what is left tells what the whole tells
 abbrev pub Leads : List (ℕ × Form) → List (ℕ × Form) → Type 0
-Leads left whole = (All IsFaultless left → All IsFaultless whole) × ((x : ShapeFault) → IsFirstIn left x → IsFirstIn whole x)
+Leads left whole =
+    (All IsFaultless left → All IsFaultless whole)
+    × ((x : ShapeFault) → IsFirstIn left x → IsFirstIn whole x)
 
 pub leads_self : (ns : List (ℕ × Form)) → Leads ns ns
 leads_self ns = (λ all. all, λ x h. h)
 
-module _ (left here rest whole : List (ℕ × Form)) (split : left ≡ here ++ rest) (leads : Leads left whole) where
+module _ (left here rest whole : List (ℕ × Form)) (split : left ≡ here ++ rest)
+    (leads : Leads left whole) where
   pub leads_on : All IsFaultless here → Leads rest whole
   leads_on all = (
     λ less. leads.0 (rw split (All-append IsFaultless here rest all less)),
@@ -223,7 +281,8 @@ module _ (left here rest whole : List (ℕ × Form)) (split : left ≡ here ++ r
   pub leads_out : (x : ShapeFault) → IsFirstIn here x → IsFirstIn whole x
   leads_out x h = leads.1 x (rw split (first_left here rest x h))
 
-pub leads_end : (left whole : List (ℕ × Form)) → left ≡ [] → Leads left whole → All IsFaultless whole
+pub leads_end : (left whole : List (ℕ × Form)) → left ≡ [] → Leads left whole
+    → All IsFaultless whole
 leads_end left whole e leads = leads.0 (rw e (All-nil IsFaultless))
 
 -- ---- the nodes of parts and of cases, one by one
@@ -231,28 +290,35 @@ leads_end left whole e leads = leads.0 (rw e (All-nil IsFaultless))
 some_same : {A : Type 0} (x y : A) → Some x ≡ Some y → x ≡ y
 some_same x y e = cc
 
-pub parts_split : (d i : ℕ) (ps : List (List ℕ × Form)) (p : List ℕ × Form) → slice_get ps i ≡ Some p
-    → part_nodes d (named_parts (drop i ps)) ≡ nodes d p.1 ++ part_nodes d (named_parts (drop (suc i) ps))
+pub parts_split : (d i : ℕ) (ps : List (List ℕ × Form)) (p : List ℕ × Form)
+    → slice_get ps i ≡ Some p
+    → part_nodes d (named_parts (drop i ps))
+    ≡ nodes d p.1 ++ part_nodes d (named_parts (drop (suc i) ps))
 unfolding part_nodes
 parts_split d i [] p e = absurd cc
-parts_split d zero (q ∷ ps) p e = ap (λ x. nodes d x.1 ++ part_nodes d (named_parts ps)) (some_same q p e)
+parts_split d zero (q ∷ ps) p e =
+    ap (λ x. nodes d x.1 ++ part_nodes d (named_parts ps)) (some_same q p e)
 parts_split d (suc i) (q ∷ ps) p e = parts_split d i ps p e
 
-pub parts_past : (d i : ℕ) (ps : List (List ℕ × Form)) → length ps ≤ i → part_nodes d (named_parts (drop i ps)) ≡ []
+pub parts_past : (d i : ℕ) (ps : List (List ℕ × Form)) → length ps ≤ i
+    → part_nodes d (named_parts (drop i ps)) ≡ []
 unfolding part_nodes
 parts_past d zero [] h = refl
 parts_past d zero (p ∷ ps) h = absurd (omega arith)
 parts_past d (suc i) [] h = refl
 parts_past d (suc i) (p ∷ ps) h = parts_past d i ps (omega arith)
 
-pub cases_split : (d i : ℕ) (cs : List (List ℕ × Parts)) (c : List ℕ × Parts) → slice_get cs i ≡ Some c
+pub cases_split : (d i : ℕ) (cs : List (List ℕ × Parts)) (c : List ℕ × Parts)
+    → slice_get cs i ≡ Some c
     → case_nodes d (cases (drop i cs)) ≡ part_nodes d c.1 ++ case_nodes d (cases (drop (suc i) cs))
 unfolding case_nodes
 cases_split d i [] c e = absurd cc
-cases_split d zero (q ∷ cs) c e = ap (λ x. part_nodes d x.1 ++ case_nodes d (cases cs)) (some_same q c e)
+cases_split d zero (q ∷ cs) c e =
+    ap (λ x. part_nodes d x.1 ++ case_nodes d (cases cs)) (some_same q c e)
 cases_split d (suc i) (q ∷ cs) c e = cases_split d i cs c e
 
-pub cases_past : (d i : ℕ) (cs : List (List ℕ × Parts)) → length cs ≤ i → case_nodes d (cases (drop i cs)) ≡ []
+pub cases_past : (d i : ℕ) (cs : List (List ℕ × Parts)) → length cs ≤ i
+    → case_nodes d (cases (drop i cs)) ≡ []
 unfolding case_nodes
 cases_past d zero [] h = refl
 cases_past d zero (c ∷ cs) h = absurd (omega arith)
@@ -261,22 +327,31 @@ cases_past d (suc i) (c ∷ cs) h = cases_past d i cs (omega arith)
 
 -- ---- one node, by its kind
 
-pub tuple_tells : (d n : ℕ) (fs : Parts) (r : Result (Unit {0}) ShapeFault) → d ≤ deepest_shape → n ≡ length (part_names fs) → 2 ≤ n → TellsCount n r → TellsNode (d, tuple fs) r
+pub tuple_tells : (d n : ℕ) (fs : Parts) (r : Result (Unit {0}) ShapeFault) → d ≤ deepest_shape
+    → n ≡ length (part_names fs) → 2 ≤ n → TellsCount n r → TellsNode (d, tuple fs) r
 tuple_tells d n fs (Ok u) deep e two few =
-    faultless d (tuple fs) deep (λ v. absurd v) (λ t. let two : 2 ≤ n = two in omega arith) (λ r. absurd r)
-    (let few : n ≤ most_members = few in omega arith) (All-nil IsShapeName) none_distinct none_distinct
+    faultless d (tuple fs) deep (λ v. absurd v) (λ t. let two : 2 ≤ n = two in omega arith)
+    (λ r. absurd r)
+    (let few : n ≤ most_members = few in omega arith)
+    (All-nil IsShapeName) none_distinct none_distinct
 tuple_tells d n fs (Err x) deep e two many =
-    rw many.1 (too_many d (tuple fs) deep (λ v. absurd v) (λ t. let two : 2 ≤ n = two in omega arith) (λ r. absurd r) n e many.0)
+    rw many.1 (too_many d (tuple fs) deep (λ v. absurd v)
+    (λ t. let two : 2 ≤ n = two in omega arith) (λ r. absurd r) n e many.0)
 
 -- a record or a variant that has members
-module _ (d : ℕ) (f : Form) (deep : d ≤ deepest_shape) (some : 0 < member_count f) (other : IsTuple f → ⊥) where
-  pub count_fault : (n : ℕ) (x : ShapeFault) → n ≡ member_count f → TellsCount n (Err x) → IsFaultOf (d, f) x
-  count_fault n x e many = rw many.1 (too_many d f deep (λ v. some) (λ t. absurd (other t)) (λ r. some) n e many.0)
+module _ (d : ℕ) (f : Form) (deep : d ≤ deepest_shape) (some : 0 < member_count f)
+    (other : IsTuple f → ⊥) where
+  pub count_fault : (n : ℕ) (x : ShapeFault) → n ≡ member_count f → TellsCount n (Err x)
+      → IsFaultOf (d, f) x
+  count_fault n x e many =
+      rw many.1 (too_many d f deep (λ v. some) (λ t. absurd (other t)) (λ r. some) n e many.0)
 
   module _ (few : member_count f ≤ most_members) where
     pub names_fault : (x : ShapeFault) → IsFaultOfNames (names f) x → IsFaultOf (d, f) x
-    names_fault (BadName p) h = bad_name d f deep (λ v. some) (λ t. absurd (other t)) (λ r. some) few p h
-    names_fault (SameName i j) h = same_name d f deep (λ v. some) (λ t. absurd (other t)) (λ r. some) few h.0 i j h.1
+    names_fault (BadName p) h =
+        bad_name d f deep (λ v. some) (λ t. absurd (other t)) (λ r. some) few p h
+    names_fault (SameName i j) h =
+        same_name d f deep (λ v. some) (λ t. absurd (other t)) (λ r. some) few h.0 i j h.1
     names_fault (TooDeep depth) h = absurd h
     names_fault EmptySum h = absurd h
     names_fault (ShortTuple count) h = absurd h
@@ -284,56 +359,72 @@ module _ (d : ℕ) (f : Form) (deep : d ≤ deepest_shape) (some : 0 < member_co
     names_fault (TooMany count) h = absurd h
     names_fault (TagClash i j) h = absurd h
 
-    pub named_tells : (r : Result (Unit {0}) ShapeFault) → IsDistinct (tags f) → TellsNames (names f) r → TellsNode (d, f) r
-    named_tells (Ok u) other_tags h = faultless d f deep (λ v. some) (λ t. absurd (other t)) (λ r. some) few h.0 h.1 other_tags
+    pub named_tells : (r : Result (Unit {0}) ShapeFault) → IsDistinct (tags f)
+        → TellsNames (names f) r → TellsNode (d, f) r
+    named_tells (Ok u) other_tags h =
+        faultless d f deep (λ v. some) (λ t. absurd (other t)) (λ r. some) few h.0 h.1 other_tags
     named_tells (Err x) other_tags h = names_fault x h
 
-    pub tags_fault : (i j : ℕ) → All IsShapeName (names f) × IsDistinct (names f) → IsFirstRepeat (tags f) i j → IsFaultOf (d, f) (TagClash i j)
-    tags_fault i j h clash = tag_clash d f deep (λ v. some) (λ t. absurd (other t)) (λ r. some) few h.0 h.1 i j clash
+    pub tags_fault : (i j : ℕ) → All IsShapeName (names f) × IsDistinct (names f)
+        → IsFirstRepeat (tags f) i j → IsFaultOf (d, f) (TagClash i j)
+    tags_fault i j h clash =
+        tag_clash d f deep (λ v. some) (λ t. absurd (other t)) (λ r. some) few h.0 h.1 i j clash
 
 -- a node without members
-pub bare_node : (d : ℕ) (f : Form) → d ≤ deepest_shape → member_count f ≡ 0 → (IsVariant f → ⊥) → (IsTuple f → ⊥) → (IsRecord f → ⊥) → names f ≡ [] → tags f ≡ [] → IsFaultless (d, f)
+pub bare_node : (d : ℕ) (f : Form) → d ≤ deepest_shape → member_count f ≡ 0 → (IsVariant f → ⊥)
+    → (IsTuple f → ⊥) → (IsRecord f → ⊥) → names f ≡ [] → tags f ≡ [] → IsFaultless (d, f)
 bare_node d f deep none variant short named_ no_names no_tags =
-    faultless d f deep (λ v. absurd (variant v)) (λ t. absurd (short t)) (λ r. absurd (named_ r)) (omega arith)
+    faultless d f deep (λ v. absurd (variant v)) (λ t. absurd (short t)) (λ r. absurd (named_ r))
+    (omega arith)
     (rw no_names (All-nil IsShapeName)) (rw no_names none_distinct) (rw no_tags none_distinct)
 
 -- a list that is not empty has a length
 pub there : (n k : ℕ) (b : Bool) → b ≡ eqb n 0 → b ≡ false → k ≡ n → 0 < k
-there n k b is none e = let other : n ≡ 0 → ⊥ = eqb-false n 0 (sym is ∙ none) in elim (cases_lt 0 n) [
-  | inl lt ↦ rw e lt
-  | inr le ↦ absurd (other (omega arith))
-]
+there n k b is none e =
+    let other : n ≡ 0 → ⊥ = eqb-false n 0 (sym is ∙ none) in elim (cases_lt 0 n) [
+      | inl lt ↦ rw e lt
+      | inr le ↦ absurd (other (omega arith))
+    ]
 
 -- ---- loops over parts and over cases
 
 module _ (d : ℕ) {A : Type 0} (g : A → List ℕ × Form) (xs : List A) (i : ℕ)
-    (leads : Leads (part_nodes d (named_parts (drop i (map g xs)))) (part_nodes d (named_parts (map g xs)))) where
+    (leads : Leads (part_nodes d (named_parts (drop i (map g xs))))
+    (part_nodes d (named_parts (map g xs)))) where
   pub parts_over : length xs ≤ i → All IsFaultless (part_nodes d (named_parts (map g xs)))
   parts_over past = leads_end _ _ (parts_past d i (map g xs) (rw (length-map xs g) past)) leads
 
   module _ (x : A) (at_x : slice_get xs i ≡ Some x) where
-    split_part : part_nodes d (named_parts (drop i (map g xs))) ≡ nodes d (g x).1 ++ part_nodes d (named_parts (drop (suc i) (map g xs)))
+    split_part : part_nodes d (named_parts (drop i (map g xs)))
+        ≡ nodes d (g x).1 ++ part_nodes d (named_parts (drop (suc i) (map g xs)))
     split_part = parts_split d i (map g xs) (g x) (slice_get-map g xs i ∙ ap (option_map g) at_x)
 
-    pub parts_on : All IsFaultless (nodes d (g x).1) → Leads (part_nodes d (named_parts (drop (i + 1) (map g xs)))) (part_nodes d (named_parts (map g xs)))
+    pub parts_on : All IsFaultless (nodes d (g x).1)
+        → Leads (part_nodes d (named_parts (drop (i + 1) (map g xs))))
+        (part_nodes d (named_parts (map g xs)))
     parts_on all = rw add-one (leads_on _ _ _ _ split_part leads all)
 
-    pub parts_out : (y : ShapeFault) → IsFirstIn (nodes d (g x).1) y → IsFirstIn (part_nodes d (named_parts (map g xs))) y
+    pub parts_out : (y : ShapeFault) → IsFirstIn (nodes d (g x).1) y
+        → IsFirstIn (part_nodes d (named_parts (map g xs))) y
     parts_out y h = leads_out _ _ _ _ split_part leads y h
 
 module _ (d : ℕ) {A : Type 0} (g : A → List ℕ × Parts) (xs : List A) (i : ℕ)
-    (leads : Leads (case_nodes d (cases (drop i (map g xs)))) (case_nodes d (cases (map g xs)))) where
+    (leads : Leads (case_nodes d (cases (drop i (map g xs))))
+    (case_nodes d (cases (map g xs)))) where
   pub cases_over : length xs ≤ i → All IsFaultless (case_nodes d (cases (map g xs)))
   cases_over past = leads_end _ _ (cases_past d i (map g xs) (rw (length-map xs g) past)) leads
 
   module _ (x : A) (at_x : slice_get xs i ≡ Some x) where
-    split_case : case_nodes d (cases (drop i (map g xs))) ≡ part_nodes d (g x).1 ++ case_nodes d (cases (drop (suc i) (map g xs)))
+    split_case : case_nodes d (cases (drop i (map g xs)))
+        ≡ part_nodes d (g x).1 ++ case_nodes d (cases (drop (suc i) (map g xs)))
     split_case = cases_split d i (map g xs) (g x) (slice_get-map g xs i ∙ ap (option_map g) at_x)
 
-    pub cases_on : All IsFaultless (part_nodes d (g x).1) → Leads (case_nodes d (cases (drop (i + 1) (map g xs)))) (case_nodes d (cases (map g xs)))
+    pub cases_on : All IsFaultless (part_nodes d (g x).1)
+        → Leads (case_nodes d (cases (drop (i + 1) (map g xs)))) (case_nodes d (cases (map g xs)))
     cases_on all = rw add-one (leads_on _ _ _ _ split_case leads all)
 
-    pub cases_out : (y : ShapeFault) → IsFirstIn (part_nodes d (g x).1) y → IsFirstIn (case_nodes d (cases (map g xs))) y
+    pub cases_out : (y : ShapeFault) → IsFirstIn (part_nodes d (g x).1) y
+        → IsFirstIn (case_nodes d (cases (map g xs))) y
     cases_out y h = leads_out _ _ _ _ split_case leads y h
 
 pub bare_good : (d : ℕ) (f : Form) → IsFaultless (d, f) → All IsFaultless ((d, f) ∷ [])

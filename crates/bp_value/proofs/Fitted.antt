@@ -11,7 +11,8 @@ use Rattle.bp_value.specs.Fits.{Fits, FitParts, FitCase, FitsSexp, IsMade, InRan
 use Rattle.bp_value.proofs.Layers.{atom_is, list_is, atom_no_list, num_is, text_is, present_is, present_there, items_is, parts_is, case_place, case_is, sexp_is}
 
 -- what is made of one thing alone
-made_is : {A V : Type 0} (made : A → V) → ((x y : A) → made x ≡ made y → x ≡ y) → (P : A → Type 0) (a : A)
+made_is : {A V : Type 0} (made : A → V) → ((x y : A) → made x ≡ made y → x ≡ y)
+    → (P : A → Type 0) (a : A)
     → (IsMade made P (made a) ↔ P a)
 made_is made alike P a = (λ m. subst P (alike m.0 a (sym m.1)) m.2, λ p. (a, refl, p))
 
@@ -64,11 +65,13 @@ pub fit_items : (m : ℕ) (f : Form) (vs : List Value)
 unfolding Fits
 fit_items m f vs = made_is val.Items items_is (λ ws. (length ws ≤ m) × All (Fits m f) ws) vs
 
-pub fit_tuple : (m : ℕ) (fs : Parts) (vs : List Value) → (Fits m (tuple fs) (val.Parts vs) ↔ FitParts m fs vs)
+pub fit_tuple : (m : ℕ) (fs : Parts) (vs : List Value)
+    → (Fits m (tuple fs) (val.Parts vs) ↔ FitParts m fs vs)
 unfolding Fits
 fit_tuple m fs vs = made_is val.Parts parts_is (FitParts m fs) vs
 
-pub fit_fields : (m : ℕ) (fs : Parts) (vs : List Value) → (Fits m (fields fs) (val.Parts vs) ↔ FitParts m fs vs)
+pub fit_fields : (m : ℕ) (fs : Parts) (vs : List Value)
+    → (Fits m (fields fs) (val.Parts vs) ↔ FitParts m fs vs)
 unfolding Fits
 fit_fields m fs vs = made_is val.Parts parts_is (FitParts m fs) vs
 
@@ -76,15 +79,18 @@ fit_fields m fs vs = made_is val.Parts parts_is (FitParts m fs) vs
 case_made : (P : ℕ → List Value → Type 0) (p : ℕ) (vs : List Value)
     → (((q : ℕ) × IsMade (val.Case q) (P q) (val.Case p vs)) ↔ P p vs)
 case_made P p vs = (
-  λ f. subst (λ q. P q vs) (case_place f.0 p f.1.0 vs (sym f.1.1)) (subst (P f.0) (case_is f.0 p f.1.0 vs (sym f.1.1)) f.1.2),
+  λ f. subst (λ q. P q vs) (case_place f.0 p f.1.0 vs (sym f.1.1))
+      (subst (P f.0) (case_is f.0 p f.1.0 vs (sym f.1.1)) f.1.2),
   λ h. (p, (vs, refl, h)),
 )
 
-pub fit_sum : (m : ℕ) (cs : Cases) (p : ℕ) (vs : List Value) → (Fits m (sum cs) (val.Case p vs) ↔ FitCase m cs p vs)
+pub fit_sum : (m : ℕ) (cs : Cases) (p : ℕ) (vs : List Value)
+    → (Fits m (sum cs) (val.Case p vs) ↔ FitCase m cs p vs)
 unfolding Fits
 fit_sum m cs p vs = case_made (FitCase m cs) p vs
 
-pub fit_poly : (m : ℕ) (cs : Cases) (p : ℕ) (vs : List Value) → (Fits m (poly cs) (val.Case p vs) ↔ FitCase m cs p vs)
+pub fit_poly : (m : ℕ) (cs : Cases) (p : ℕ) (vs : List Value)
+    → (Fits m (poly cs) (val.Case p vs) ↔ FitCase m cs p vs)
 unfolding Fits
 fit_poly m cs p vs = case_made (FitCase m cs) p vs
 
@@ -93,13 +99,15 @@ unfolding Fits
 fit_sexp m s = made_is val.Sexp sexp_is (FitsSexp m deepest_sexp) s
 
 -- the part at a place
-pub fit_part_at : (m i : ℕ) (ps : List (List ℕ × Form)) (p : List ℕ × Form) (vs : List Value) (v : Value) → slice_get ps i ≡ Some p
+pub fit_part_at : (m i : ℕ) (ps : List (List ℕ × Form)) (p : List ℕ × Form) (vs : List Value)
+    (v : Value) → slice_get ps i ≡ Some p
     → slice_get vs i ≡ Some v → FitParts m (named_parts ps) vs → Fits m p.1 v
 unfolding FitParts
 fit_part_at m i [] p vs v e h f = absurd cc
 fit_part_at m i (q ∷ ps) p [] v e h f = absurd cc
 fit_part_at m zero (q ∷ ps) p (w ∷ vs) v e h f =
-    let a : q ≡ p = cc in let b : w ≡ v = cc in subst (λ x. Fits m x.1 v) a (subst (Fits m q.1) b f.0)
+    let a : q ≡ p = cc in let b : w ≡ v = cc in
+    subst (λ x. Fits m x.1 v) a (subst (Fits m q.1) b f.0)
 fit_part_at m (suc i) (q ∷ ps) p (w ∷ vs) v e h f = fit_part_at m i ps p vs v e h f.1
 
 -- ---- S-expressions, within a depth

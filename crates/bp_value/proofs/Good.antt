@@ -1,4 +1,5 @@
--- What a good shape gives to those that go down it: bounds, names and tags at a node, and good children.
+-- What a good shape gives to those that go down it: bounds, names and tags at a node, and good
+-- children.
 use Rattle.std.proofs.Common.{◌≡◌, ℕ, zero, suc, ◌+◌, ◌<◌, ◌≤◌, ◌⊎◌, inl, inr, List, [], ◌∷◌, ◌++◌, map, length, take, get_or, slice_get, Some, refl, subst, add-one, arith}
 use Rattle.std.specs.List.{All}
 use Rattle.std.proofs.lemmas.Bool.{cases_lt, cases_order}
@@ -24,7 +25,9 @@ good_root f good = good
 
 front_good : (xs ys : List (ℕ × Form)) → AreGood (xs ++ ys) → AreGood xs
 front_good [] ys all = All-nil IsFaultless
-front_good (x ∷ xs) ys all = All-cons IsFaultless x xs (All-head IsFaultless x (xs ++ ys) all) (front_good xs ys (All-tail IsFaultless x (xs ++ ys) all))
+front_good (x ∷ xs) ys all =
+    All-cons IsFaultless x xs (All-head IsFaultless x (xs ++ ys) all)
+    (front_good xs ys (All-tail IsFaultless x (xs ++ ys) all))
 
 back_good : (xs ys : List (ℕ × Form)) → AreGood (xs ++ ys) → AreGood ys
 back_good [] ys all = all
@@ -59,11 +62,13 @@ pub good_listed : (d : ℕ) (f : Form) → AreGood (nodes d (listed f)) → AreG
 unfolding nodes
 good_listed d f all = All-tail IsFaultless (d, listed f) (nodes (d + 1) f) all
 
-pub good_tuple : (d : ℕ) (fs : Parts) → AreGood (nodes d (tuple fs)) → AreGood (part_nodes (d + 1) fs)
+pub good_tuple : (d : ℕ) (fs : Parts) → AreGood (nodes d (tuple fs))
+    → AreGood (part_nodes (d + 1) fs)
 unfolding nodes
 good_tuple d fs all = All-tail IsFaultless (d, tuple fs) (part_nodes (d + 1) fs) all
 
-pub good_fields : (d : ℕ) (fs : Parts) → AreGood (nodes d (fields fs)) → AreGood (part_nodes (d + 1) fs)
+pub good_fields : (d : ℕ) (fs : Parts) → AreGood (nodes d (fields fs))
+    → AreGood (part_nodes (d + 1) fs)
 unfolding nodes
 good_fields d fs all = All-tail IsFaultless (d, fields fs) (part_nodes (d + 1) fs) all
 
@@ -75,28 +80,41 @@ pub good_poly : (d : ℕ) (cs : Cases) → AreGood (nodes d (poly cs)) → AreGo
 unfolding nodes
 good_poly d cs all = All-tail IsFaultless (d, poly cs) (case_nodes (d + 1) cs) all
 
-pub good_part : (d : ℕ) (name : List ℕ) (f : Form) (fs : Parts) → AreGood (part_nodes d (part name f fs)) → AreGood (nodes d f) × AreGood (part_nodes d fs)
+pub good_part : (d : ℕ) (name : List ℕ) (f : Form) (fs : Parts)
+    → AreGood (part_nodes d (part name f fs)) → AreGood (nodes d f) × AreGood (part_nodes d fs)
 unfolding part_nodes
-good_part d name f fs all = (front_good (nodes d f) (part_nodes d fs) all, back_good (nodes d f) (part_nodes d fs) all)
+good_part d name f fs all =
+    (front_good (nodes d f) (part_nodes d fs) all, back_good (nodes d f) (part_nodes d fs) all)
 
-pub good_case : (d : ℕ) (name : List ℕ) (fs : Parts) (cs : Cases) → AreGood (case_nodes d (case name fs cs)) → AreGood (part_nodes d fs) × AreGood (case_nodes d cs)
+pub good_case : (d : ℕ) (name : List ℕ) (fs : Parts) (cs : Cases)
+    → AreGood (case_nodes d (case name fs cs))
+    → AreGood (part_nodes d fs) × AreGood (case_nodes d cs)
 unfolding case_nodes
-good_case d name fs cs all = (front_good (part_nodes d fs) (case_nodes d cs) all, back_good (part_nodes d fs) (case_nodes d cs) all)
+good_case d name fs cs all = (
+  front_good (part_nodes d fs) (case_nodes d cs) all,
+  back_good (part_nodes d fs) (case_nodes d cs) all,
+)
 
 -- the part at a place, and the case at a place
-pub good_part_at : (d i : ℕ) (ps : List (List ℕ × Form)) (p : List ℕ × Form) → slice_get ps i ≡ Some p
+pub good_part_at : (d i : ℕ) (ps : List (List ℕ × Form)) (p : List ℕ × Form)
+    → slice_get ps i ≡ Some p
     → AreGood (part_nodes d (named_parts ps)) → AreGood (nodes d p.1)
 good_part_at d i [] p e all = absurd cc
 good_part_at d zero (q ∷ ps) p e all =
-    let same : q ≡ p = cc in subst (λ x. AreGood (nodes d x.1)) same (good_part d q.0 q.1 (named_parts ps) all).0
-good_part_at d (suc i) (q ∷ ps) p e all = good_part_at d i ps p e (good_part d q.0 q.1 (named_parts ps) all).1
+    let same : q ≡ p = cc in
+    subst (λ x. AreGood (nodes d x.1)) same (good_part d q.0 q.1 (named_parts ps) all).0
+good_part_at d (suc i) (q ∷ ps) p e all =
+    good_part_at d i ps p e (good_part d q.0 q.1 (named_parts ps) all).1
 
-pub good_case_at : (d i : ℕ) (cs : List (List ℕ × Parts)) (c : List ℕ × Parts) → slice_get cs i ≡ Some c
+pub good_case_at : (d i : ℕ) (cs : List (List ℕ × Parts)) (c : List ℕ × Parts)
+    → slice_get cs i ≡ Some c
     → AreGood (case_nodes d (cases cs)) → AreGood (part_nodes d c.1)
 good_case_at d i [] c e all = absurd cc
 good_case_at d zero (q ∷ cs) c e all =
-    let same : q ≡ c = cc in subst (λ x. AreGood (part_nodes d x.1)) same (good_case d q.0 q.1 (cases cs) all).0
-good_case_at d (suc i) (q ∷ cs) c e all = good_case_at d i cs c e (good_case d q.0 q.1 (cases cs) all).1
+    let same : q ≡ c = cc in
+    subst (λ x. AreGood (part_nodes d x.1)) same (good_case d q.0 q.1 (cases cs) all).0
+good_case_at d (suc i) (q ∷ cs) c e all =
+    good_case_at d i cs c e (good_case d q.0 q.1 (cases cs) all).1
 
 -- ---- lists of names
 
@@ -108,7 +126,10 @@ either (inr a) (inr b) = inr (λ h. elim h [ inl x ↦ a x | inr y ↦ b y ])
 between : (low high n : ℕ) → ((low ≤ n) × (n ≤ high)) ⊎ ((low ≤ n) × (n ≤ high) → ⊥)
 between low high n = elim (cases_lt n low) [
   | inl lt ↦ inr (λ h. let a : low ≤ n = h.0 in omega arith)
-  | inr ge ↦ elim (cases_lt high n) [ inl lt ↦ inr (λ h. let b : n ≤ high = h.1 in omega arith) | inr le ↦ inl (ge, le) ]
+  | inr ge ↦ elim (cases_lt high n) [
+    | inl lt ↦ inr (λ h. let b : n ≤ high = h.1 in omega arith)
+    | inr le ↦ inl (ge, le)
+  ]
 ]
 
 equal : (m n : ℕ) → (m ≡ n) ⊎ (m ≡ n → ⊥)
@@ -139,7 +160,10 @@ decided_name (b ∷ s) = elim (decided_start b) [
   | inr other ↦ inr (λ h. other h.0)
   | inl is ↦ elim (cases_lt (length s) longest_name) [
     | inr long ↦ inr (λ h. let short : length s < longest_name = h.1 in omega arith)
-    | inl short ↦ elim (decided_bytes s) [ inl all ↦ inl (is, short, all) | inr others ↦ inr (λ h. others h.2) ]
+    | inl short ↦ elim (decided_bytes s) [
+      | inl all ↦ inl (is, short, all)
+      | inr others ↦ inr (λ h. others h.2)
+    ]
   ]
 ]
 
@@ -147,31 +171,54 @@ decided_name (b ∷ s) = elim (decided_start b) [
 module _ (ns : List (List ℕ)) (none : (p : ℕ) → IsFirstBadName ns p → ⊥) where
   names_below : (n : ℕ) → n ≤ length ns → All IsShapeName (take n ns)
   names_below zero in_list = All-nil IsShapeName
-  names_below (suc n) in_list = let before = names_below n (omega arith) in elim (decided_name (get_or ns n [])) [
-    | inl is ↦ rw (← add-one n) (All-more IsShapeName ns n [] (omega arith) before is)
-    | inr other ↦ absurd (none n (record { name = get_or ns n []; stands = slice_get-get_or ns n [] (omega arith); bad = other; good_before = before }))
-  ]
+  names_below (suc n) in_list =
+      let before = names_below n (omega arith) in elim (decided_name (get_or ns n [])) [
+        | inl is ↦ rw (← add-one n) (All-more IsShapeName ns n [] (omega arith) before is)
+        | inr other ↦ absurd (none n (record {
+          name = get_or ns n [];
+          stands = slice_get-get_or ns n [] (omega arith);
+          bad = other;
+          good_before = before;
+        }))
+      ]
 
   pub all_names : All IsShapeName ns
-  all_names = let e : take (length ns) ns ≡ ns = take_all (length ns) ns (omega arith) in subst (All IsShapeName) e (names_below (length ns) (omega arith))
+  all_names =
+      let e : take (length ns) ns ≡ ns = take_all (length ns) ns (omega arith) in
+      subst (All IsShapeName) e (names_below (length ns) (omega arith))
 
 -- ---- at one node
 
 module _ (d : ℕ) (f : Form) (less : IsFaultless (d, f)) where
   pub shallow : d ≤ deepest_shape
-  shallow = elim (cases_lt deepest_shape d) [ inl deep ↦ absurd (less (TooDeep d) (refl, deep)) | inr le ↦ le ]
+  shallow = elim (cases_lt deepest_shape d) [
+    | inl deep ↦ absurd (less (TooDeep d) (refl, deep))
+    | inr le ↦ le
+  ]
 
   pub few_members : member_count f ≤ most_members
-  few_members = elim (cases_lt most_members (member_count f)) [ inl many ↦ absurd (less (TooMany (member_count f)) (refl, many)) | inr le ↦ le ]
+  few_members = elim (cases_lt most_members (member_count f)) [
+    | inl many ↦ absurd (less (TooMany (member_count f)) (refl, many))
+    | inr le ↦ le
+  ]
 
   pub some_cases : IsVariant f → 0 < member_count f
-  some_cases variant = elim (cases_lt 0 (member_count f)) [ inl some ↦ some | inr none ↦ absurd (less EmptySum (variant, omega arith)) ]
+  some_cases variant = elim (cases_lt 0 (member_count f)) [
+    | inl some ↦ some
+    | inr none ↦ absurd (less EmptySum (variant, omega arith))
+  ]
 
   pub two_parts : IsTuple f → 2 ≤ member_count f
-  two_parts pair = elim (cases_lt (member_count f) 2) [ inl short ↦ absurd (less (ShortTuple (member_count f)) (pair, refl, short)) | inr le ↦ le ]
+  two_parts pair = elim (cases_lt (member_count f) 2) [
+    | inl short ↦ absurd (less (ShortTuple (member_count f)) (pair, refl, short))
+    | inr le ↦ le
+  ]
 
   pub some_fields : IsRecord f → 0 < member_count f
-  some_fields named = elim (cases_lt 0 (member_count f)) [ inl some ↦ some | inr none ↦ absurd (less EmptyFields (named, omega arith)) ]
+  some_fields named = elim (cases_lt 0 (member_count f)) [
+    | inl some ↦ some
+    | inr none ↦ absurd (less EmptyFields (named, omega arith))
+  ]
 
   pub good_names : All IsShapeName (names f)
   good_names = all_names (names f) (λ p bad. less (BadName p) bad)
@@ -188,7 +235,8 @@ pub case_names-cases : (cs : List (List ℕ × Parts)) → case_names (cases cs)
 case_names-cases [] = refl
 case_names-cases (c ∷ cs) = λ i. c.0 ∷ case_names-cases cs i
 
-pub part_names-named_parts : (ps : List (List ℕ × Form)) → part_names (named_parts ps) ≡ map (λ p. p.0) ps
+pub part_names-named_parts : (ps : List (List ℕ × Form))
+    → part_names (named_parts ps) ≡ map (λ p. p.0) ps
 part_names-named_parts [] = refl
 part_names-named_parts (p ∷ ps) = λ i. p.0 ∷ part_names-named_parts ps i
 
@@ -198,13 +246,16 @@ module _ (d : ℕ) (cs : List (List ℕ × Parts)) where
   count_is = rw (case_names-cases cs) (length-map cs (λ c. c.0))
 
   pub sum_count : IsFaultless (d, sum (cases cs)) → (0 < length cs) × (length cs ≤ most_members)
-  sum_count less = rw (← count_is) (some_cases d (sum (cases cs)) less tt, few_members d (sum (cases cs)) less)
+  sum_count less =
+      rw (← count_is) (some_cases d (sum (cases cs)) less tt, few_members d (sum (cases cs)) less)
 
   pub poly_count : IsFaultless (d, poly (cases cs)) → (0 < length cs) × (length cs ≤ most_members)
-  poly_count less = rw (← count_is) (some_cases d (poly (cases cs)) less tt, few_members d (poly (cases cs)) less)
+  poly_count less =
+      rw (← count_is) (some_cases d (poly (cases cs)) less tt, few_members d (poly (cases cs)) less)
 
 -- the cases of a polymorphic variant have tags of their own
-tags_are : (cs : List (List ℕ × Parts)) → map tag_of (case_names (cases cs)) ≡ map (λ c. tag_of c.0) cs
+tags_are : (cs : List (List ℕ × Parts))
+    → map tag_of (case_names (cases cs)) ≡ map (λ c. tag_of c.0) cs
 tags_are [] = refl
 tags_are (c ∷ cs) = λ i. tag_of c.0 ∷ tags_are cs i
 
@@ -217,8 +268,18 @@ module _ (d : ℕ) (ps : List (List ℕ × Form)) where
   size_is : length (part_names (named_parts ps)) ≡ length ps
   size_is = rw (part_names-named_parts ps) (length-map ps (λ p. p.0))
 
-  pub tuple_count : IsFaultless (d, tuple (named_parts ps)) → (2 ≤ length ps) × (length ps ≤ most_members)
-  tuple_count less = rw (← size_is) (two_parts d (tuple (named_parts ps)) less tt, few_members d (tuple (named_parts ps)) less)
+  pub tuple_count : IsFaultless (d, tuple (named_parts ps))
+      → (2 ≤ length ps) × (length ps ≤ most_members)
+  tuple_count less =
+      rw (← size_is) (
+        two_parts d (tuple (named_parts ps)) less tt,
+        few_members d (tuple (named_parts ps)) less,
+      )
 
-  pub fields_count : IsFaultless (d, fields (named_parts ps)) → (0 < length ps) × (length ps ≤ most_members)
-  fields_count less = rw (← size_is) (some_fields d (fields (named_parts ps)) less tt, few_members d (fields (named_parts ps)) less)
+  pub fields_count : IsFaultless (d, fields (named_parts ps))
+      → (0 < length ps) × (length ps ≤ most_members)
+  fields_count less =
+      rw (← size_is) (
+        some_fields d (fields (named_parts ps)) less tt,
+        few_members d (fields (named_parts ps)) less,
+      )

@@ -1,4 +1,5 @@
--- Values and S-expressions one layer at a time: which variant one is, and that a variant's fields are its own.
+-- Values and S-expressions one layer at a time: which variant one is, and that a variant's fields
+-- are its own.
 use Rattle.std.proofs.Common.{◌≡◌, ℕ, ℤ, Bool, List, sym, ap, ◌∙◌, rules}
 use Rattle.bp_value.specs.declared.value.Sexp.{Sexp, out-Sexp, the_lemmas}
 use Rattle.bp_value.specs.declared.value.Sexp.TheVariants as sx
@@ -9,6 +10,10 @@ use Rattle.bp_value.specs.declared.value.Value.TheOpen as layer
 
 -- ---- S-expressions
 
+same_sexp_layer : {s u : Sexp} {a b : sexp_layer.Sexp-F Sexp}
+    → out-Sexp s ≡ a → out-Sexp u ≡ b → s ≡ u → a ≡ b
+same_sexp_layer p q e = sym p ∙ ap out-Sexp e ∙ q
+
 pub out_atom : (t : List ℕ) → out-Sexp (sx.Atom t) ≡ sexp_layer.Atom t
 out_atom t = search (rules, the_lemmas)
 
@@ -16,16 +21,13 @@ pub out_list : (ss : List Sexp) → out-Sexp (sx.List ss) ≡ sexp_layer.List ss
 out_list ss = search (rules, the_lemmas)
 
 pub atom_is : (t u : List ℕ) → sx.Atom t ≡ sx.Atom u → t ≡ u
-atom_is t u e =
-    let same : sexp_layer.Atom t ≡ sexp_layer.Atom u = sym (out_atom t) ∙ ap out-Sexp e ∙ out_atom u in cc
+atom_is t u e = let same = same_sexp_layer (out_atom t) (out_atom u) e in cc
 
 pub list_is : (ss us : List Sexp) → sx.List ss ≡ sx.List us → ss ≡ us
-list_is ss us e =
-    let same : sexp_layer.List ss ≡ sexp_layer.List us = sym (out_list ss) ∙ ap out-Sexp e ∙ out_list us in cc
+list_is ss us e = let same = same_sexp_layer (out_list ss) (out_list us) e in cc
 
 pub atom_no_list : (t : List ℕ) (ss : List Sexp) → sx.Atom t ≡ sx.List ss → ⊥
-atom_no_list t ss e =
-    let same : sexp_layer.Atom t ≡ sexp_layer.List ss = sym (out_atom t) ∙ ap out-Sexp e ∙ out_list ss in cc
+atom_no_list t ss e = let same = same_sexp_layer (out_atom t) (out_list ss) e in cc
 
 -- ---- values: the layer of each variant
 
@@ -64,46 +66,39 @@ out_case place vs = search (rules, value_lemmas)
 
 -- ---- one variant of two values has one content
 
+same_layer : {v w : Value} {a b : layer.Value-F Value}
+    → out-Value v ≡ a → out-Value w ≡ b → v ≡ w → a ≡ b
+same_layer p q e = sym p ∙ ap out-Value e ∙ q
+
 pub bool_is : (b c : Bool) → val.Bool b ≡ val.Bool c → b ≡ c
-bool_is b c e =
-    let same : layer.Bool b ≡ layer.Bool c = sym (out_bool b) ∙ ap out-Value e ∙ out_bool c in cc
+bool_is b c e = let same = same_layer (out_bool b) (out_bool c) e in cc
 
 pub char_is : (b c : ℕ) → val.Char b ≡ val.Char c → b ≡ c
-char_is b c e =
-    let same : layer.Char b ≡ layer.Char c = sym (out_char b) ∙ ap out-Value e ∙ out_char c in cc
+char_is b c e = let same = same_layer (out_char b) (out_char c) e in cc
 
 pub num_is : (n m : ℤ) → val.Num n ≡ val.Num m → n ≡ m
-num_is n m e =
-    let same : layer.Num n ≡ layer.Num m = sym (out_num n) ∙ ap out-Value e ∙ out_num m in cc
+num_is n m e = let same = same_layer (out_num n) (out_num m) e in cc
 
 pub text_is : (t u : List ℕ) → val.Text t ≡ val.Text u → t ≡ u
-text_is t u e =
-    let same : layer.Text t ≡ layer.Text u = sym (out_text t) ∙ ap out-Value e ∙ out_text u in cc
+text_is t u e = let same = same_layer (out_text t) (out_text u) e in cc
 
 pub present_is : (v w : Value) → val.Present v ≡ val.Present w → v ≡ w
-present_is v w e =
-    let same : layer.Present v ≡ layer.Present w = sym (out_present v) ∙ ap out-Value e ∙ out_present w in cc
+present_is v w e = let same = same_layer (out_present v) (out_present w) e in cc
 
 pub items_is : (vs ws : List Value) → val.Items vs ≡ val.Items ws → vs ≡ ws
-items_is vs ws e =
-    let same : layer.Items vs ≡ layer.Items ws = sym (out_items vs) ∙ ap out-Value e ∙ out_items ws in cc
+items_is vs ws e = let same = same_layer (out_items vs) (out_items ws) e in cc
 
 pub parts_is : (vs ws : List Value) → val.Parts vs ≡ val.Parts ws → vs ≡ ws
-parts_is vs ws e =
-    let same : layer.Parts vs ≡ layer.Parts ws = sym (out_parts vs) ∙ ap out-Value e ∙ out_parts ws in cc
+parts_is vs ws e = let same = same_layer (out_parts vs) (out_parts ws) e in cc
 
 pub sexp_is : (s u : Sexp) → val.Sexp s ≡ val.Sexp u → s ≡ u
-sexp_is s u e =
-    let same : layer.Sexp s ≡ layer.Sexp u = sym (out_sexp s) ∙ ap out-Value e ∙ out_sexp u in cc
+sexp_is s u e = let same = same_layer (out_sexp s) (out_sexp u) e in cc
 
 pub case_place : (p q : ℕ) (vs ws : List Value) → val.Case p vs ≡ val.Case q ws → p ≡ q
-case_place p q vs ws e =
-    let same : layer.Case p vs ≡ layer.Case q ws = sym (out_case p vs) ∙ ap out-Value e ∙ out_case q ws in cc
+case_place p q vs ws e = let same = same_layer (out_case p vs) (out_case q ws) e in cc
 
 pub case_is : (p q : ℕ) (vs ws : List Value) → val.Case p vs ≡ val.Case q ws → vs ≡ ws
-case_is p q vs ws e =
-    let same : layer.Case p vs ≡ layer.Case q ws = sym (out_case p vs) ∙ ap out-Value e ∙ out_case q ws in cc
+case_is p q vs ws e = let same = same_layer (out_case p vs) (out_case q ws) e in cc
 
 pub present_there : (v : Value) → val.Present v ≡ val.Absent → ⊥
-present_there v e =
-    let same : layer.Present v ≡ layer.Absent = sym (out_present v) ∙ ap out-Value e ∙ out_absent in cc
+present_there v e = let same = same_layer (out_present v) out_absent e in cc

@@ -17,7 +17,9 @@ length_more (c ∷ s) b = ap suc (length_more s b)
 
 name_number_more : (s : List ℕ) (b : ℕ) → name_number (s ++ b ∷ []) ≡ name_number s * 223 + b
 name_number_more [] b = omega arith
-name_number_more (c ∷ s) b = grown c (223 ^ length s) (223 ^ length (s ++ b ∷ [])) (name_number s) b (name_number (s ++ b ∷ []))
+name_number_more (c ∷ s) b =
+    grown c (223 ^ length s) (223 ^ length (s ++ b ∷ [])) (name_number s) b
+    (name_number (s ++ b ∷ []))
     (ap (λ k. 223 ^ k) (length_more s b) ∙ pow-suc 223 (length s)) (name_number_more s b)
 
 low : (n b : ℕ) → (n * 223 % 4294967296 + b) % 4294967296 ≡ (n * 223 + b) % 4294967296
@@ -25,11 +27,21 @@ low n b = omega arith
 
 pub hash_more : (s : List ℕ) (i h : ℕ) → i < length s → h ≡ name_number (take i s) % 4294967296
     → (h * 223 % 4294967296 + get_or s i 0) % 4294967296 ≡ name_number (take (i + 1) s) % 4294967296
-hash_more s i h lt e = rw (e, take_more s i 0 lt, name_number_more (take i s) (get_or s i 0), mul-mod_first (name_number (take i s)) 223 4294967296) (low (name_number (take i s)) (get_or s i 0))
+hash_more s i h lt e =
+    rw (
+      e,
+      take_more s i 0 lt,
+      name_number_more (take i s) (get_or s i 0),
+      mul-mod_first (name_number (take i s)) 223 4294967296,
+    )
+    (low (name_number (take i s)) (get_or s i 0))
 
-low_fits : (h : ℕ) (b : Bool) → b ≡ nat_lt h 1073741824 → h < 2147483648 → SFits w32 ((pos 2 *ℤ (if b then pos h else (pos h -ℤ pos 2147483648))) +ℤ pos 1)
-low_fits h true e lt = let below : h < 1073741824 = ltb-true h 1073741824 (sym e) in omega (arith, ints)
-low_fits h false e lt = let above : 1073741824 ≤ h = ltb-false h 1073741824 (sym e) in omega (arith, ints)
+low_fits : (h : ℕ) (b : Bool) → b ≡ nat_lt h 1073741824 → h < 2147483648
+    → SFits w32 ((pos 2 *ℤ (if b then pos h else (pos h -ℤ pos 2147483648))) +ℤ pos 1)
+low_fits h true e lt =
+    let below : h < 1073741824 = ltb-true h 1073741824 (sym e) in omega (arith, ints)
+low_fits h false e lt =
+    let above : 1073741824 ≤ h = ltb-false h 1073741824 (sym e) in omega (arith, ints)
 
 -- a tag is a number of 32 bits
 pub tag_fits : (name : List ℕ) → SFits w32 (tag_of name)

@@ -7,7 +7,12 @@ use Rattle.bp_value.proofs.Members.{part_count}
 use Rattle.bp_value.proofs.checking.tuple_check.Goals as goal
 
 pub returns-then-shapes-lt2 : goal.returns-then-shapes-lt2
-returns-then-shapes-lt2 c = λ d deep. short_tuple d _ (tuple (parts (map form_of c.args.shapes.now))) deep tt (λ v. v) (sym (part_count unnamed (map form_of c.args.shapes.now) ∙ length-map c.args.shapes.now form_of)) c.if-shapes-lt2.true
+returns-then-shapes-lt2 c =
+    λ d deep. short_tuple d _ (tuple (parts (map form_of c.args.shapes.now))) deep tt (λ v. v)
+    (sym (part_count unnamed (map form_of c.args.shapes.now)
+    ∙ length-map c.args.shapes.now form_of)) c.if-shapes-lt2.true
 
 pub returns : goal.returns
-returns c = λ d deep. tuple_tells d _ (parts (map form_of c.args.shapes.now)) _ deep (sym (part_count unnamed (map form_of c.args.shapes.now) ∙ length-map c.args.shapes.now form_of)) c.if-shapes-lt2.false c.count_check.ensures
+returns c = λ d deep. tuple_tells d _ (parts (map form_of c.args.shapes.now)) _ deep
+    (sym (part_count unnamed (map form_of c.args.shapes.now)
+    ∙ length-map c.args.shapes.now form_of)) c.if-shapes-lt2.false c.count_check.ensures

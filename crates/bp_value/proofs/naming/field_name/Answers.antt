@@ -7,5 +7,7 @@ use Rattle.bp_value.proofs.naming.field_name.Goals as goal
 pub returns : goal.returns
 returns c =
     slice_get-map (λ x. x.name) c.args.fields.now c.args.place
-    ∙ ap (option_map (λ x. x.name)) (slice_get_read c.args.fields.now _ c.args.place c.index-fields-place.result refl c.requires c.index-fields-place.is)
+    ∙ ap (option_map (λ x. x.name))
+    (slice_get_read c.args.fields.now _ c.args.place c.index-fields-place.result refl c.requires
+    c.index-fields-place.is)
     ∙ ap (λ x. Some x.name) c.index-fields-place.is ∙ ap Some (sym c.as_slice.ensures)

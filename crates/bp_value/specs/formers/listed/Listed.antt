@@ -1,4 +1,5 @@
--- How a `Listed` stores its items: so a type may reach itself through it. It is a list to contracts, and its one field a `Vec`.
+-- How a `Listed` stores its items: so a type may reach itself through it. It is a list to
+-- contracts, and its one field a `Vec`.
 use mathlib.Core.Path.{◌≡◌, refl, sym}
 use mathlib.Core.List.{List, []}
 use mathlib.Core.Former.{Former, this, list, via, children}
@@ -33,20 +34,26 @@ the_empty = []
 abbrev pub the_items : (X : Type 0) → List X → List X
 the_items X items = items
 
-pub the_items_listed : (X : Type 0) (items : List X) → listed _ (children (the_former this) X items) ≡ the_items X items
+pub the_items_listed : (X : Type 0) (items : List X)
+    → listed _ (children (the_former this) X items) ≡ the_items X items
 the_items_listed X items = list-listed X items
 
 -- the field, as `Vec` says how it stores its items
 abbrev stored : Former {0}
-stored = via (vec.the_former this Global) Inside (λ X inside. inside.items) (λ X held. record { items = held }) (λ X inside. refl) (λ X held. refl)
+stored = via (vec.the_former this Global) Inside (λ X inside. inside.items)
+    (λ X held. record { items = held }) (λ X inside. refl) (λ X held. refl)
 
 module _ (R S : RattleType) (h : R.Denot → S.Denot) where
-  pub the_places : Alike R S h → Alike (model.the_row R) (model.the_row S) ((the_former this).map R.Denot S.Denot h)
-  the_places alike = view_places stored (list this) view (λ X Y k u. refl) (λ X u. refl) R.Denot S.Denot h
+  pub the_places : Alike R S h → Alike (model.the_row R) (model.the_row S)
+      ((the_former this).map R.Denot S.Denot h)
+  the_places alike =
+      view_places stored (list this) view (λ X Y k u. refl) (λ X u. refl) R.Denot S.Denot h
       (model.the_row R).coded (model.the_row S).coded (invariant R.Denot) (invariant S.Denot)
-      (λ u p q. refl) (λ u p q. refl) (λ u e. tt) (λ u e. tt) (over (fields.the_row R)) (over (fields.the_row S))
+      (λ u p q. refl) (λ u p q. refl) (λ u e. tt) (λ u e. tt) (over (fields.the_row R))
+      (over (fields.the_row S))
       (struct_places (fields.the_type R) (fields.the_type S) (vec.mapped h, tt) _ (λ d. refl) refl
       (laid _ _ _ (vec.the_places heap.the_row ghosts R S h alike), tt))
 
-  pub the_codes_placed : Recodes R S h → Recodes (model.the_row R) (model.the_row S) ((the_former this).map R.Denot S.Denot h)
+  pub the_codes_placed : Recodes R S h → Recodes (model.the_row R) (model.the_row S)
+      ((the_former this).map R.Denot S.Denot h)
   the_codes_placed same items = sym (code_map R.coded.code S.coded.code h (λ x. sym (same x)) items)
