@@ -195,32 +195,80 @@ fn fits_has_the_range_and_the_depth(rt: HostRuntime) -> Result<(), Fail> {
     Ok(())
 }
 
+fn tuple_of(alloc: Global, first: Shape, second: Shape) -> Result<Shape, OutOfMemory> {
+    let mut parts = Vec::new(alloc);
+    parts.push(first)?;
+    parts.push(second)?;
+    Ok(Shape::Tuple(Listed::from_vec(parts)))
+}
+
+fn sum_of_pair(alloc: Global) -> Result<Shape, OutOfMemory> {
+    let name = blob(alloc, "C")?;
+    let args = Listed::from_vec(vec![in alloc; Shape::Int32, Shape::Int64]?);
+    let cases = vec![in alloc; Case { name, args }]?;
+    Ok(Shape::Sum(Listed::from_vec(cases)))
+}
+
+fn poly_of_arg(alloc: Global, shape: Shape) -> Result<Shape, OutOfMemory> {
+    let arg = Some(Boxed::new(alloc, shape)?);
+    let name = blob(alloc, "Ok")?;
+    let cases = vec![in alloc; PolyCase { name, arg }]?;
+    Ok(Shape::Poly(Listed::from_vec(cases)))
+}
+
+fn field(alloc: Global, name: &str, shape: Shape) -> Result<Field, OutOfMemory> {
+    let name = blob(alloc, name)?;
+    Ok(Field { name, shape })
+}
+
+/// A record whose fields are of each kind of shape that has children.
+fn every_shape(alloc: Global) -> Result<Shape, OutOfMemory> {
+    let mut fields = Vec::new(alloc);
+    fields.push(field(alloc, "pair", tuple_of(alloc, Shape::Bool, Shape::Char)?)?)?;
+    let opt = Shape::Opt(Boxed::new(alloc, Shape::Int)?);
+    fields.push(field(alloc, "opt", opt)?)?;
+    let list = Shape::List(Boxed::new(alloc, Shape::Text)?);
+    fields.push(field(alloc, "list", list)?)?;
+    fields.push(field(alloc, "sum", sum_of_pair(alloc)?)?)?;
+    fields.push(field(alloc, "poly", poly_of_arg(alloc, Shape::Sexp)?)?)?;
+    Ok(Shape::Fields(Listed::from_vec(fields)))
+}
+
+fn values_of(alloc: Global, first: Value, second: Value) -> Result<Listed<Value>, OutOfMemory> {
+    let mut values = Vec::new(alloc);
+    values.push(first)?;
+    values.push(second)?;
+    Ok(Listed::from_vec(values))
+}
+
+/// A value of that record.
+fn every_value(alloc: Global) -> Result<Value, OutOfMemory> {
+    let mut parts = Vec::new(alloc);
+    parts.push(Value::Parts(values_of(alloc, Value::Bool(true), Value::Char(65))?))?;
+    parts.push(Value::Present(Boxed::new(alloc, Value::Num(7))?))?;
+    let text = Value::Text(blob(alloc, "text")?);
+    parts.push(Value::Items(Listed::from_vec(vec![in alloc; text]?)))?;
+    let args = values_of(alloc, Value::Num(-1), Value::Num(5))?;
+    parts.push(Value::Case { place: 0, args })?;
+    let arg = Value::Sexp(lists(alloc, 2)?);
+    let args = Listed::from_vec(vec![in alloc; arg]?);
+    parts.push(Value::Case { place: 0, args })?;
+    Ok(Value::Parts(Listed::from_vec(parts)))
+}
+
 #[test]
 fn copies_are_made_and_alike(rt: HostRuntime) -> Result<(), Fail> {
     let alloc = rt.alloc();
     let text = blob(alloc, "text")?;
-    assert_eq!(rt; text.copy(alloc)?.into_vec().as_slice(), b"text".as_slice());
-    let arg = Some(Boxed::from_box(Box::new(alloc, sum_of(alloc, &["A", "B"])?)?));
-    let name = blob(alloc, "Ok")?;
-    let shape = Shape::Poly(Listed::from_vec(vec![in alloc; PolyCase { name, arg }]?));
-    let copy = shape.copy(alloc)?;
-    assert_eq!(rt;
-        format!(in alloc; "{copy:?}")?,
-        format!(in alloc; "{shape:?}")?
-    );
-    let args = Listed::from_vec(vec![in alloc; Value::Text(text), Value::Sexp(lists(alloc, 2)?)]?);
-    let value = Value::Present(Boxed::new(alloc, Value::Case { place: 1, args })?);
-    let copy = value.copy(alloc)?;
-    assert_eq!(rt;
-        format!(in alloc; "{copy:?}")?,
-        format!(in alloc; "{value:?}")?
-    );
+    assert_eq!(rt; text.copy(alloc)?.as_slice(), b"text".as_slice());
+    let shape = every_shape(alloc)?;
+    assert!(rt; shape.copy(alloc)?.is_same(&shape));
+    let value = every_value(alloc)?;
+    assert!(rt; value.copy(alloc)?.is_same(&value));
+    assert_eq!(rt; fits_checked(&shape, &value, 8), Ok(true));
+    assert!(rt; Value::Absent.copy(alloc)?.is_same(&Value::Absent));
     let sexp = lists(alloc, 3)?;
-    let copy = sexp.copy(alloc)?;
-    assert_eq!(rt;
-        format!(in alloc; "{copy:?}")?,
-        format!(in alloc; "{sexp:?}")?
-    );
+    assert!(rt; sexp.copy(alloc)?.is_same(&sexp));
     Ok(())
 }
 
