@@ -1,6 +1,9 @@
 -- A value that fits, one layer at a time: its content fits, and the other way round.
-use Rattle.std.proofs.Common.{◌≡◌, ℕ, ℤ, zero, suc, ◌≤◌, Bool, ◌↔◌, inl, inr, List, [], ◌∷◌, length, slice_get, Some, refl, sym, subst}
+use Rattle.std.proofs.Common.{◌≡◌, ℕ, ℤ, pos, negsuc, zero, suc, ◌-◌, ◌^◌, ◌<◌, ◌≤◌, ◌≤ℤ◌, Bool, ◌↔◌, inl, inr, List, [], ◌∷◌, length, slice_get, Some, refl, sym, subst, arith}
+use lib.Signed.{mag}
 use Rattle.std.specs.List.{All}
+use Rattle.std.proofs.lemmas.Int.{ints}
+use Rattle.std.proofs.lemmas.Nat.{pow_pos}
 use Rattle.bp_value.specs.declared.value.Sexp.{Sexp}
 use Rattle.bp_value.specs.declared.value.Sexp.TheVariants as sx
 use Rattle.bp_value.specs.declared.value.Value.{Value}
@@ -15,6 +18,19 @@ made_is : {A V : Type 0} (made : A → V) → ((x y : A) → made x ≡ made y �
     → (P : A → Type 0) (a : A)
     → (IsMade made P (made a) ↔ P a)
 made_is made alike P a = (λ m. subst P (alike m.0 a (sym m.1)) m.2, λ p. (a, refl, p))
+
+-- a number of so many bits and a sign is nearer to 0, or to -1, than the power of these bits
+pub range_is : (bits : ℕ) (n : ℤ) → (InRange bits n ↔ (mag n < 2 ^ bits))
+range_is bits (pos k) = (
+  λ h. let some : 0 < 2 ^ bits =
+      pow_pos bits in let up : pos k ≤ℤ pos (2 ^ bits - 1) = h.1 in omega (arith, ints),
+  λ lt. (omega (arith, ints), omega (arith, ints)),
+)
+range_is bits (negsuc k) = (
+  λ h. let some : 0 < 2 ^ bits =
+      pow_pos bits in let low : negsuc (2 ^ bits - 1) ≤ℤ negsuc k = h.0 in omega (arith, ints),
+  λ lt. (omega (arith, ints), omega (arith, ints)),
+)
 
 -- ---- values
 
