@@ -1,5 +1,5 @@
 -- A value that fits, one layer at a time: its content fits, and the other way round.
-use Rattle.std.proofs.Common.{◌≡◌, ℕ, ℤ, pos, negsuc, zero, suc, ◌-◌, ◌^◌, ◌<◌, ◌≤◌, ◌≤ℤ◌, Bool, ◌↔◌, inl, inr, List, [], ◌∷◌, length, slice_get, Some, refl, sym, subst, arith}
+use Rattle.std.proofs.Common.{◌≡◌, ℕ, ℤ, pos, negsuc, zero, suc, ◌-◌, ◌^◌, ◌<◌, ◌≤◌, ◌≤ℤ◌, Bool, ◌↔◌, inl, inr, List, [], ◌∷◌, length, slice_get, Some, None, refl, sym, subst, arith}
 use lib.Signed.{mag}
 use Rattle.std.specs.List.{All}
 use Rattle.std.proofs.lemmas.Int.{ints}
@@ -8,7 +8,7 @@ use Rattle.bp_value.specs.declared.value.Sexp.{Sexp}
 use Rattle.bp_value.specs.declared.value.Sexp.TheVariants as sx
 use Rattle.bp_value.specs.declared.value.Value.{Value}
 use Rattle.bp_value.specs.declared.value.Value.TheVariants as val
-use Rattle.bp_value.specs.Form.{Form, Parts, Cases, unit, bool, char, int, int32, int64, text, opt, listed, tuple, fields, sum, poly, sexp, named_parts}
+use Rattle.bp_value.specs.Form.{Form, Parts, Cases, unit, bool, char, int, int32, int64, text, opt, listed, tuple, fields, sum, poly, sexp, named_parts, cases, argument}
 use Rattle.bp_value.specs.Limits.{deepest_sexp}
 use Rattle.bp_value.specs.Fits.{Fits, FitParts, FitCase, FitsSexp, IsMade, InRange}
 use Rattle.bp_value.proofs.Layers.{atom_is, list_is, atom_no_list, num_is, text_is, present_is, present_there, items_is, parts_is, case_place, case_is, sexp_is}
@@ -125,6 +125,30 @@ fit_part_at m zero (q ∷ ps) p (w ∷ vs) v e h f =
     let a : q ≡ p = cc in let b : w ≡ v = cc in
     subst (λ x. Fits m x.1 v) a (subst (Fits m q.1) b f.0)
 fit_part_at m (suc i) (q ∷ ps) p (w ∷ vs) v e h f = fit_part_at m i ps p vs v e h f.1
+
+-- no argument, and one
+pub fit_no_argument : (m : ℕ) (vs : List Value) → (FitParts m (argument None) vs ↔ (vs ≡ []))
+unfolding FitParts
+fit_no_argument m [] = (λ f. refl, λ e. tt)
+fit_no_argument m (v ∷ vs) = (λ f. absurd f, λ e. absurd cc)
+
+pub fit_argument : (m : ℕ) (f : Form) (vs : List Value)
+    → (FitParts m (argument (Some f)) vs ↔ ((v : Value) × (vs ≡ v ∷ []) × Fits m f v))
+unfolding FitParts
+fit_argument m f [] = (λ h. absurd h, λ h. let e : [] ≡ h.0 ∷ [] = h.1 in absurd cc)
+fit_argument m f (v ∷ []) =
+    (λ h. (v, refl, h.0), λ h. (let e : h.0 ≡ v = cc in subst (Fits m f) e h.2, tt))
+fit_argument m f (v ∷ w ∷ vs) =
+    (λ h. absurd h.1, λ h. let e : v ∷ w ∷ vs ≡ h.0 ∷ [] = h.1 in absurd cc)
+
+-- a case stands at its place
+pub fit_case_within : (m p : ℕ) (cs : List (List ℕ × Parts)) (vs : List Value)
+    → FitCase m (cases cs) p vs → p < length cs
+unfolding FitCase
+fit_case_within m p [] vs f = absurd f
+fit_case_within m zero (c ∷ cs) vs f = omega arith
+fit_case_within m (suc p) (c ∷ cs) vs f =
+    let next : p < length cs = fit_case_within m p cs vs f in omega arith
 
 -- ---- S-expressions, within a depth
 
