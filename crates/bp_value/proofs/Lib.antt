@@ -1,5 +1,6 @@
 pub mod Distinct
 pub mod FaultSteps
+pub mod FirstSteps
 pub mod FitSteps
 pub mod Fitted
 pub mod Forms

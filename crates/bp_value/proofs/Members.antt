@@ -11,7 +11,7 @@ use Rattle.bp_value.specs.Tags.{tag_of}
 use Rattle.bp_value.specs.Form.{Form, Parts, named_parts, cases, field_form, case_form, poly_form}
 use Rattle.bp_value.specs.Names.{IsNowhere}
 use Rattle.bp_value.specs.Faults.{part_names, case_names}
-use Rattle.bp_value.proofs.FaultSteps.{taken}
+use Rattle.bp_value.proofs.FirstSteps.{taken}
 
 pub part_count : {A : Type 0} (g : A → List ℕ × Form) (xs : List A)
     → length (part_names (named_parts (map g xs))) ≡ length xs

@@ -8,7 +8,8 @@ use Rattle.std.proofs.lemmas.Result.{err_from_is_err_and}
 use Rattle.bp_value.specs.Form.{form_of, field_form, case_form, poly_form, unnamed, unit, bool, char, int, int32, int64, text, opt, listed, sexp}
 use Rattle.bp_value.specs.Faults.{nodes, part_nodes, case_nodes, IsFaultless}
 use Rattle.bp_value.proofs.Forms.{form_of-Unit, form_of-Bool, form_of-Char, form_of-Int, form_of-Int32, form_of-Int64, form_of-Text, form_of-Opt, form_of-List, form_of-Tuple, form_of-Fields, form_of-Sum, form_of-Poly, form_of-Sexp}
-use Rattle.bp_value.proofs.FaultSteps.{parts_over, parts_on, parts_out, cases_over, cases_on, cases_out, bare_node, bare_good, node_tells, deep_first}
+use Rattle.bp_value.proofs.FaultSteps.{bare_node}
+use Rattle.bp_value.proofs.FirstSteps.{parts_over, parts_on, parts_out, cases_over, cases_on, cases_out, bare_good, node_tells, deep_first}
 use Rattle.bp_value.proofs.checking.+checks.Goals as goal
 
 pub argument_check-returns-in-None : goal.argument_check-returns-in-None

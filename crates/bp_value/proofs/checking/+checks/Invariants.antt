@@ -2,7 +2,7 @@
 use Rattle.std.proofs.Common.{map, drop}
 use Rattle.bp_value.specs.Form.{form_of, field_form, case_form, poly_form, unnamed, named_parts, cases}
 use Rattle.bp_value.specs.Faults.{part_nodes, case_nodes}
-use Rattle.bp_value.proofs.FaultSteps.{Leads}
+use Rattle.bp_value.proofs.FirstSteps.{Leads}
 use Rattle.bp_value.proofs.checking.+checks.Given as goal
 
 abbrev pub invariant-parts_check-loop-shape : goal.invariant-parts_check-loop-shape

@@ -1,6 +1,6 @@
 -- The root's nodes tell of the shape.
 use Rattle.bp_value.specs.Faults.{IsGood, FirstFault}
-use Rattle.bp_value.proofs.FaultSteps.{tells_good, tells_fault}
+use Rattle.bp_value.proofs.FirstSteps.{tells_good, tells_fault}
 use Rattle.bp_value.proofs.shape.Shape.check.Goals as goal
 
 pub returns-clause-good : goal.returns-clause-good
