@@ -1,4 +1,6 @@
 mod Bending
 mod Copying
+pub mod Counting
 mod Giving
 pub mod Runs
+pub mod Telling

@@ -1,21 +1,15 @@
--- What one call of a source, a sink or a wire moves, and how a count of faults rises.
-use Rattle.std.specs.Prelude.{◌≡◌, ℕ, ◌+◌, ◌-◌, ◌^◌, ◌<◌, ◌≤◌, min, Bool, true, List, [], ◌++◌, length, take, drop, ⊤, None, Some}
+-- What one call of a source, a sink or a wire moves.
+use Rattle.std.specs.Prelude.{◌≡◌, ℕ, ◌-◌, ◌<◌, ◌≤◌, Bool, true, List, [], ◌++◌, length, take, drop, ⊤, None, Some}
 use Rattle.std.proofs.Common.{sym, take-append-drop}
 use Rattle.std.specs.declared.option.Option.{Option}
 use Rattle.bp_base.specs.declared.source.ReadGot.{ReadGot}
 use Rattle.bp_base.specs.declared.source.ReadGot.TheVariants as read
 use Rattle.bp_base.specs.declared.sink.Wrote.{Wrote}
 use Rattle.bp_base.specs.declared.sink.Wrote.TheVariants as write
-use Rattle.bp_base.specs.declared.sink.Finished.{Finished}
-use Rattle.bp_base.specs.declared.sink.Finished.TheVariants as flush
 use Rattle.bp_base.specs.declared.wire.PutDone.{PutDone}
 use Rattle.bp_base.specs.declared.wire.PutDone.TheVariants as done
 use Rattle.bp_base.specs.declared.wire.Got.{Got}
 use Rattle.bp_base.specs.declared.wire.Got.TheVariants as got
-
--- a count of faults rose; one that stands at the last value of a u64 counts as risen
-abbrev pub Rose : ℕ → ℕ → Type 0
-Rose before now = min (before + 1) (2 ^ 64 - 1) ≤ now
 
 -- ---- a source
 
@@ -26,19 +20,16 @@ read_count read.Idle = 0
 read_count read.End = 0
 read_count read.Failed = 0
 
+-- the bytes that a read gave, where `into` is what it left there
+abbrev pub read_bytes : ReadGot → List ℕ → List ℕ
+read_bytes result into = take (read_count result) into
+
 -- a read that gives bytes gives at least one, and no more than there is room for
 abbrev pub ReadFits : ReadGot → ℕ → Type 0
 ReadFits (read.Bytes count) room = (1 ≤ count) × (count ≤ room)
 ReadFits read.Idle room = ⊤
 ReadFits read.End room = ⊤
 ReadFits read.Failed room = ⊤
-
--- a read that did not fail leaves the count of faults
-abbrev pub ReadIsSteady : ReadGot → ℕ → ℕ → Type 0
-ReadIsSteady (read.Bytes count) before now = now ≡ before
-ReadIsSteady read.Idle before now = now ≡ before
-ReadIsSteady read.End before now = now ≡ before
-ReadIsSteady read.Failed before now = ⊤
 
 -- whether a source is ended after a read: End ends it, and nothing else changes that
 abbrev pub ended_after : Bool → ReadGot → Bool
@@ -58,15 +49,6 @@ write_count write.Failed = 0
 abbrev pub WriteFits : Wrote → ℕ → Type 0
 WriteFits (write.Bytes count) len = (1 ≤ count) × (count ≤ len)
 WriteFits write.Failed len = ⊤
-
--- a write, and a flush, that did not fail leave the count of faults
-abbrev pub WriteIsSteady : Wrote → ℕ → ℕ → Type 0
-WriteIsSteady (write.Bytes count) before now = now ≡ before
-WriteIsSteady write.Failed before now = ⊤
-
-abbrev pub FlushIsSteady : Finished → ℕ → ℕ → Type 0
-FlushIsSteady flush.Done before now = now ≡ before
-FlushIsSteady flush.Failed before now = ⊤
 
 -- ---- a wire
 
@@ -88,17 +70,6 @@ GotFits got.Exact room = ⊤
 GotFits (got.Less count) room = count < room
 GotFits got.Failed room = ⊤
 
--- a put, and a get, that did not fail leave the count of faults
-abbrev pub PutIsSteady : PutDone → ℕ → ℕ → Type 0
-PutIsSteady done.Done before now = now ≡ before
-PutIsSteady done.OutOfMemory before now = now ≡ before
-PutIsSteady done.Failed before now = ⊤
-
-abbrev pub GetIsSteady : Got → ℕ → ℕ → Type 0
-GetIsSteady got.Exact before now = now ≡ before
-GetIsSteady (got.Less count) before now = now ≡ before
-GetIsSteady got.Failed before now = ⊤
-
 -- how many bytes of those sent were not given yet, where the wire tells both
 abbrev pub in_flight : Option (List ℕ) → Option (List ℕ) → Option ℕ
 in_flight (Some sent) (Some given) = Some (length sent - length given)
@@ -112,6 +83,11 @@ GotAll (got.Less count) (Some waiting) room = count ≡ waiting
 GotAll got.Failed (Some waiting) room = ⊤
 GotAll answer None room = ⊤
 
+-- the same, by what a wire told before the get
+abbrev pub GetsAll : {W : Type 0} → (W → Option (List ℕ)) → (W → Option (List ℕ)) → W → ℕ → Got
+    → Type 0
+GetsAll sent given old room result = GotAll result (in_flight (sent old) (given old)) room
+
 -- what was given is a front of what was sent
 abbrev pub GivenIsFront : Option (List ℕ) → Option (List ℕ) → Type 0
 GivenIsFront (Some sent) (Some given) = (rest : List ℕ) × (sent ≡ given ++ rest)
@@ -119,5 +95,6 @@ GivenIsFront (Some sent) None = ⊤
 GivenIsFront None given = ⊤
 
 -- a wire that gives the first of the bytes that were sent
-pub GivenIsFront-take : (count : ℕ) (sent : List ℕ) → GivenIsFront (Some sent) (Some (take count sent))
+pub GivenIsFront-take : (count : ℕ) (sent : List ℕ)
+    → GivenIsFront (Some sent) (Some (take count sent))
 GivenIsFront-take count sent = (drop count sent, sym (take-append-drop count sent))

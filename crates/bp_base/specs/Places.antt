@@ -3,21 +3,21 @@ use Rattle.std.specs.Prelude.{ℕ, zero, suc, List, [], ◌∷◌, ◌++◌, Vec
 use Rattle.std.specs.List.{flat_map}
 use Rattle.std.specs.declared.alloc.Global.{Global}
 
-abbrev pub Pieces : Type 0
-Pieces = List (Vec ℕ Global)
+abbrev pub Parts : Type 0
+Parts = List (Vec ℕ Global)
 
 -- all bytes of the pieces
-abbrev pub joined : Pieces → List ℕ
+abbrev pub joined : Parts → List ℕ
 joined pieces = flat_map (λ piece. piece.items) pieces
 
 -- the bytes before the place
-abbrev pub bytes_before : Pieces → ℕ → ℕ → List ℕ
+abbrev pub bytes_before : Parts → ℕ → ℕ → List ℕ
 bytes_before [] whole at = []
 bytes_before (piece ∷ pieces) zero at = take at piece.items
 bytes_before (piece ∷ pieces) (suc whole) at = piece.items ++ bytes_before pieces whole at
 
 -- the bytes from the place on
-abbrev pub bytes_from : Pieces → ℕ → ℕ → List ℕ
+abbrev pub bytes_from : Parts → ℕ → ℕ → List ℕ
 bytes_from [] whole at = []
 bytes_from (piece ∷ pieces) zero at = drop at piece.items ++ joined pieces
 bytes_from (piece ∷ pieces) (suc whole) at = bytes_from pieces whole at

@@ -1,6 +1,7 @@
 // Which calls of a memory form fail.
-ghost use Rattle.std.specs.Prelude.{◌≡◌, ℕ, ◌+◌, ◌-◌, ◌^◌, ◌≤◌, ◌↔◌, min, IsTrue, Contains, if◌then◌else◌};
-ghost use Rattle.bp_base.specs.Moves.{Rose};
+ghost use Rattle.std.specs.Prelude.{◌≡◌, ℕ, ◌↔◌, IsTrue, if◌then◌else◌};
+ghost use Rattle.bp_base.specs.Faults.{counted, Counts};
+ghost use Rattle.bp_base.specs.Forms.{numbered, FailsAsListed};
 
 /// The calls of one object, by number from 0, with those that fail and how many have failed.
 #[derive(Drop)]
@@ -11,9 +12,9 @@ pub struct Calls {
 }
 
 impl Calls {
+    /// No call yet, of which those of these numbers will fail.
     pub fn new(fails: Vec<u64>) -> Self
-        ensures fails { result.fails ≡ fails }
-        ensures made { result.made ≡ 0 }
+        ensures calls { numbered result ≡ (fails.items, 0) }
         ensures faults { result.faults ≡ 0 }
     {
         Calls {
@@ -23,14 +24,13 @@ impl Calls {
         }
     }
 
-    /// Makes the next call, and says whether it fails. Both numbers stay at the last value of a `u64`.
+    /// Makes the next call, and says whether it fails. Both numbers stay at the last value of a
+    /// `u64`.
     pub fn next_fails(&mut self) -> bool
-        ensures exactly { IsTrue result ↔ Contains self.old.fails.items self.old.made }
-        ensures fails { self.new.fails ≡ self.old.fails }
-        ensures made { self.new.made ≡ min (self.old.made + 1) (2 ^ 64 - 1) }
-        ensures faults { self.new.faults ≡ (if result then min (self.old.faults + 1) (2 ^ 64 - 1) else self.old.faults) }
-        ensures counts { self.old.faults ≤ self.new.faults }
-        ensures rose { IsTrue result → Rose self.old.faults self.new.faults }
+        ensures listed { FailsAsListed numbered self.old self.new (IsTrue result) }
+        ensures once { self.new.faults
+            ≡ (if result then counted self.old.faults else self.old.faults) }
+        ensures faults { Counts (λ calls. calls.faults) self.old self.new (IsTrue result) }
     {
         let fails = self.fails.contains(&self.made);
         self.made = self.made.saturating_add(1);
@@ -42,8 +42,9 @@ impl Calls {
 
     /// Counts a fault.
     pub fn count(&mut self)
-        ensures faults { self.new ≡ record self.old { faults = min (self.old.faults + 1) (2 ^ 64 - 1) } }
-        ensures counts { self.old.faults ≤ self.new.faults }
+        ensures calls { numbered self.new ≡ numbered self.old }
+        ensures once { self.new.faults ≡ counted self.old.faults }
+        ensures faults { Counts (λ calls. calls.faults) self.old self.new (Unit {0}) }
     {
         self.faults = self.faults.saturating_add(1);
     }

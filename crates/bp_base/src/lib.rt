@@ -1,7 +1,9 @@
-//! The outside as the rest of the workspace sees it: sources, sinks and wires that count their faults.
+//! The outside as the rest of the workspace sees it: sources, sinks and wires that count their
+//! faults.
 //!
-//! A program hands in the real things by [`StreamSource`] and [`StreamSink`]. The memory forms are for tests,
-//! and for bytes that stay in the process. Each kind of object is a trait, so code above works over any of them.
+//! A program hands in the real things by [`StreamSource`] and [`StreamSink`]. The memory forms are
+//! for tests, and for bytes that stay in the process. Each kind of object is a trait, so code above
+//! works over any of them.
 #![tactic(auto)]
 
 mod calls;

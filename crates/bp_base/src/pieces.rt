@@ -1,12 +1,14 @@
 // The bytes of a source in memory.
-ghost use Rattle.std.specs.Prelude.{◌≡◌, ◌≢◌, ◌≤◌, ◌++◌, [], length, take, drop};
-ghost use Rattle.bp_base.specs.Moves.{read_count, ReadFits};
-ghost use Rattle.bp_base.specs.Places.{joined, bytes_before, bytes_from};
+ghost use Rattle.std.specs.Prelude.{◌≡◌, ◌≢◌, ◌≤◌, [], Some, length, drop};
+ghost use Rattle.std.specs.Io.KnownBytes.{IsAtEnd};
+ghost use Rattle.bp_base.specs.Told.{Gains, Loses};
+ghost use Rattle.bp_base.specs.Places.{joined};
 
 use crate::ReadGot;
 use crate::front::copy_front;
 
-/// Pieces of bytes of which some were given: so many whole pieces, and so many bytes of the next one.
+/// Pieces of bytes of which some were given: so many whole pieces, and so many bytes of the next
+/// one.
 #[derive(Drop)]
 pub struct Pieces {
     pub pieces: Vec<Vec<u8>>,
@@ -15,9 +17,13 @@ pub struct Pieces {
 }
 
 impl Pieces {
+    ghost use Rattle.bp_base.specs.Moves.{read_count, read_bytes, ReadFits};
+    ghost use Rattle.bp_base.specs.Forms.{pieces_given, pieces_left};
+
+    /// Pieces of which none were given yet.
     pub fn new(pieces: Vec<Vec<u8>>) -> Self
-        ensures given { bytes_before result.pieces.items result.whole result.at ≡ [] }
-        ensures left { bytes_from result.pieces.items result.whole result.at ≡ joined pieces.items }
+        ensures given { pieces_given result ≡ Some [] }
+        ensures left { pieces_left result ≡ Some (joined pieces.items) }
     {
         Pieces {
             pieces,
@@ -26,20 +32,19 @@ impl Pieces {
         }
     }
 
-    /// Gives the rest of the next piece, or as much as fits, in front of `into`, and End where no byte is left.
+    /// Gives the rest of the next piece, or as much as fits, in front of `into`, and End where no
+    /// byte is left.
     pub fn give(&mut self, into: &mut [u8]) -> ReadGot
         requires { 1 ≤ length into.old }
 
         ensures fits { ReadFits result (length into.old) }
-        ensures given { bytes_before self.new.pieces.items self.new.whole self.new.at
-            ≡ bytes_before self.old.pieces.items self.old.whole self.old.at ++ take (read_count result) into.new }
-        ensures left { bytes_from self.old.pieces.items self.old.whole self.old.at
-            ≡ take (read_count result) into.new ++ bytes_from self.new.pieces.items self.new.whole self.new.at }
+        ensures given { Gains pieces_given self.old self.new (read_bytes result into.new) }
+        ensures left { Loses pieces_left self.old self.new (read_bytes result into.new) }
         ensures rest { drop (read_count result) into.new ≡ drop (read_count result) into.old }
 
         ensures never_idle { result ≢ ReadGot.Idle }
         ensures never_fails { result ≢ ReadGot.Failed }
-        ensures at_end { result ≡ ReadGot.End → bytes_from self.new.pieces.items self.new.whole self.new.at ≡ [] }
+        ensures at_end { result ≡ ReadGot.End → IsAtEnd (pieces_left self.new) }
     {
         'pieces: while self.whole < self.pieces.len() {
             let piece = &self.pieces[self.whole];

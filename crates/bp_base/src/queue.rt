@@ -1,6 +1,6 @@
 // The bytes of a wire in memory.
-ghost use Rattle.std.specs.Prelude.{◌≡◌, ◌≢◌, ◌+◌, ◌≤◌, ◌++◌, [], Some, length, take, drop, vec_len};
-ghost use Rattle.bp_base.specs.Moves.{put_bytes, got_bytes, GotFits, in_flight, GotAll};
+ghost use Rattle.std.specs.Prelude.{◌≡◌, ◌≢◌, ◌+◌, ◌≤◌, [], Some, length, vec_len};
+ghost use Rattle.bp_base.specs.Told.{Gains};
 
 use crate::front::copy_front;
 use crate::{Got, PutDone};
@@ -15,9 +15,13 @@ pub struct Queue {
 }
 
 impl Queue {
+    ghost use Rattle.bp_base.specs.Moves.{put_bytes, got_bytes, GotFits, GetsAll};
+    ghost use Rattle.bp_base.specs.Forms.{queue_put, queue_taken};
+
+    /// A queue with no bytes.
     pub fn new(alloc: Global) -> Self
-        ensures bytes { result.bytes.items ≡ [] }
-        ensures taken { result.taken ≡ 0 }
+        ensures put { queue_put result ≡ Some [] }
+        ensures taken { queue_taken result ≡ Some [] }
     {
         Queue {
             bytes: Vec::new(alloc),
@@ -25,9 +29,10 @@ impl Queue {
         }
     }
 
+    /// Puts the whole piece, or nothing.
     pub fn put(&mut self, piece: &[u8]) -> PutDone
-        ensures bytes { self.new.bytes.items ≡ self.old.bytes.items ++ put_bytes result piece.now }
-        ensures taken { take self.new.taken self.new.bytes.items ≡ take self.old.taken self.old.bytes.items }
+        ensures put { Gains queue_put self.old self.new (put_bytes result piece.now) }
+        ensures taken { queue_taken self.new ≡ queue_taken self.old }
         ensures never_fails { result ≢ PutDone.Failed }
     {
         match self.bytes.extend_from_slice(piece) {
@@ -39,11 +44,11 @@ impl Queue {
     /// Takes as many bytes as there are, and as fit, to the front of `into`.
     pub fn get(&mut self, into: &mut [u8]) -> Got
         ensures fits { GotFits result (length into.old) }
-        ensures all { GotAll result (in_flight (Some self.old.bytes.items) (Some (take self.old.taken self.old.bytes.items))) (length into.old) }
+        ensures all { GetsAll queue_put queue_taken self.old (length into.old) result }
         ensures never_fails { result ≢ Got.Failed }
-        ensures bytes { self.new.bytes ≡ self.old.bytes }
-        ensures taken { self.new.taken ≡ self.old.taken + length (got_bytes result into.new) }
-        ensures given { take self.new.taken self.new.bytes.items ≡ take self.old.taken self.old.bytes.items ++ got_bytes result into.new }
+        ensures put { queue_put self.new ≡ queue_put self.old }
+        ensures taken { Gains queue_taken self.old self.new (got_bytes result into.new) }
+        ensures count { self.new.taken ≡ self.old.taken + length (got_bytes result into.new) }
     {
         let count = copy_front(&self.bytes[self.taken..], into);
         self.taken += count;

@@ -1,8 +1,9 @@
 // Where bytes go.
 ghost use Rattle.std.specs.Prelude.{◌≡◌, ℕ, ◌≤◌, List, length, take};
 ghost use Rattle.std.specs.declared.option.Option.{Option};
-ghost use Rattle.std.specs.Io.KnownBytes.{Appends, Keeps};
-ghost use Rattle.bp_base.specs.Moves.{Rose, write_count, WriteFits, WriteIsSteady, FlushIsSteady};
+ghost use Rattle.bp_base.specs.Faults.{Counts};
+ghost use Rattle.bp_base.specs.Told.{Gains};
+ghost use Rattle.bp_base.specs.Moves.{write_count, WriteFits};
 
 /// What a write took.
 #[derive(Clone, Copy, Debug, PartialEq, Eq)]
@@ -23,11 +24,15 @@ pub enum Finished {
 }
 
 /// A stream of bytes that go out, in pieces of any size.
+///
+/// A fault may be counted only in a call that answers `Failed`: a write that takes some bytes and
+/// then meets a fault answers the bytes, and the next call fails. The count stays at the last value
+/// of a `u64`.
 pub trait Sink {
     /// How often the sink has failed.
     ghost faults: { Self → ℕ };
 
-    /// All bytes taken so far, where the sink tells them.
+    /// All bytes taken so far, where the sink tells them. It tells them always, or never.
     ghost put: { Self → Option (List ℕ) };
 
     /// Takes some bytes from the front of `piece`.
@@ -35,19 +40,13 @@ pub trait Sink {
         requires { 1 ≤ length piece.now }
 
         ensures fits { WriteFits result (length piece.now) }
-        ensures taken { Appends (put self.old) (put self.new) (take (write_count result) piece.now) }
-
-        ensures counts { faults self.old ≤ faults self.new }
-        ensures failed { result ≡ Wrote.Failed → Rose (faults self.old) (faults self.new) }
-        ensures steady { WriteIsSteady result (faults self.old) (faults self.new) };
+        ensures taken { Gains put self.old self.new (take (write_count result) piece.now) }
+        ensures faults { Counts faults self.old self.new (result ≡ Wrote.Failed) };
 
     /// Flushes what was taken.
     fn finish(&mut self) -> Finished
-        ensures kept { Keeps (put self.old) (put self.new) }
-
-        ensures counts { faults self.old ≤ faults self.new }
-        ensures failed { result ≡ Finished.Failed → Rose (faults self.old) (faults self.new) }
-        ensures steady { FlushIsSteady result (faults self.old) (faults self.new) };
+        ensures kept { put self.new ≡ put self.old }
+        ensures faults { Counts faults self.old self.new (result ≡ Finished.Failed) };
 }
 
 impl<K: Sink> Sink for &mut K {

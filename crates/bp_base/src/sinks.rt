@@ -17,8 +17,8 @@ pub struct MemSink {
 impl MemSink {
     ghost use Rattle.bp_base.specs.Forms.{sink_calls, room_of};
 
-    /// An empty sink that takes `room` bytes in all; a write after those is a fault. Its writes and flushes are
-    /// numbered together from 0, and those in `fails` fail.
+    /// An empty sink that takes `room` bytes in all; a write after those is a fault. Its writes and
+    /// flushes are numbered together from 0, and those in `fails` fail.
     pub fn new(alloc: Global, room: usize, fails: Vec<u64>) -> Result<Self, OutOfMemory>
         ensures put { IfOk result (λ sink. ⟦<MemSink as Sink>⟧.put sink ≡ Some []) }
         ensures faults { IfOk result (λ sink. ⟦<MemSink as Sink>⟧.faults sink ≡ 0) }
@@ -74,7 +74,8 @@ impl Sink for MemSink {
     }
 }
 
-// Copies as much of the piece as fits behind the first `len` bytes of the buffer, and answers how much.
+// Copies as much of the piece as fits behind the first `len` bytes of the buffer, and answers how
+// much.
 fn copy_behind(buffer: &mut [u8], len: usize, piece: &[u8]) -> usize
     requires { len ≤ length buffer.old }
     ensures count { result ≡ min (length piece.now) (length buffer.old - len) }
@@ -90,6 +91,7 @@ fn copy_behind(buffer: &mut [u8], len: usize, piece: &[u8]) -> usize
 pub struct SteadySink;
 
 impl SteadySink {
+    /// A sink that tells none of its bytes.
     pub fn new() -> Self
         ensures put { ⟦<SteadySink as Sink>⟧.put result ≡ None }
         ensures faults { ⟦<SteadySink as Sink>⟧.faults result ≡ 0 }

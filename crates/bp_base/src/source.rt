@@ -1,8 +1,10 @@
 // Where bytes come from.
-ghost use Rattle.std.specs.Prelude.{◌≡◌, ◌≢◌, ℕ, ◌≤◌, Bool, List, length, take, drop};
+ghost use Rattle.std.specs.Prelude.{◌≡◌, ◌≢◌, ℕ, ◌≤◌, Bool, List, length, drop};
 ghost use Rattle.std.specs.declared.option.Option.{Option};
-ghost use Rattle.std.specs.Io.KnownBytes.{Appends, Consumes, IsAtEnd};
-ghost use Rattle.bp_base.specs.Moves.{Rose, read_count, ReadFits, ReadIsSteady, ended_after};
+ghost use Rattle.std.specs.Io.KnownBytes.{IsAtEnd};
+ghost use Rattle.bp_base.specs.Faults.{Counts};
+ghost use Rattle.bp_base.specs.Told.{Gains, Loses};
+ghost use Rattle.bp_base.specs.Moves.{read_count, read_bytes, ReadFits, ended_after};
 
 /// How long a read may wait for its first byte.
 #[derive(Clone, Copy, Debug, PartialEq, Eq)]
@@ -29,14 +31,17 @@ pub enum ReadGot {
 }
 
 /// A stream of bytes that come in, in pieces of any size.
+///
+/// A fault may be counted only in a call that answers `Failed`: a read that has bytes to give and
+/// meets a fault gives the bytes first. The count stays at the last value of a `u64`.
 pub trait Source {
     /// How often the source has failed.
     ghost faults: { Self → ℕ };
 
-    /// All bytes given so far, where the source tells them.
+    /// All bytes given so far, where the source tells them. It tells them always, or never.
     ghost given: { Self → Option (List ℕ) };
 
-    /// The bytes still to come, where the source tells them.
+    /// The bytes still to come, where the source tells them. It tells them always, or never.
     ghost left: { Self → Option (List ℕ) };
 
     /// Whether a read has answered `End`.
@@ -47,17 +52,14 @@ pub trait Source {
         requires { 1 ≤ length into.old }
 
         ensures fits { ReadFits result (length into.old) }
-        ensures given { Appends (given self.old) (given self.new) (take (read_count result) into.new) }
-        ensures left { Consumes (left self.old) (left self.new) (take (read_count result) into.new) }
+        ensures given { Gains given self.old self.new (read_bytes result into.new) }
+        ensures left { Loses left self.old self.new (read_bytes result into.new) }
         ensures rest { drop (read_count result) into.new ≡ drop (read_count result) into.old }
 
         ensures never_idle { patience ≡ Patience.Forever → result ≢ ReadGot.Idle }
         ensures at_end { result ≡ ReadGot.End → IsAtEnd (left self.new) }
         ensures ended { ended self.new ≡ ended_after (ended self.old) result }
-
-        ensures counts { faults self.old ≤ faults self.new }
-        ensures failed { result ≡ ReadGot.Failed → Rose (faults self.old) (faults self.new) }
-        ensures steady { ReadIsSteady result (faults self.old) (faults self.new) };
+        ensures faults { Counts faults self.old self.new (result ≡ ReadGot.Failed) };
 }
 
 impl<S: Source> Source for &mut S {

@@ -1,6 +1,7 @@
 // Sources in memory.
 ghost use Rattle.std.specs.Prelude.{◌≡◌, [], ℕ, false, Some};
-ghost use Rattle.bp_base.specs.Places.{joined, bytes_before, bytes_from};
+ghost use Rattle.bp_base.specs.Places.{joined};
+ghost use Rattle.bp_base.specs.Forms.{source_calls, pieces_given, pieces_left};
 
 use crate::calls::Calls;
 use crate::pieces::Pieces;
@@ -16,10 +17,8 @@ pub struct MemSource {
 }
 
 impl MemSource {
-    ghost use Rattle.bp_base.specs.Forms.{source_calls};
-
-    /// A source that gives at most the rest of one piece per read, and skips empty pieces. Its reads are numbered
-    /// from 0, and those in `fails` fail.
+    /// A source that gives at most the rest of one piece per read, and skips empty pieces. Its
+    /// reads are numbered from 0, and those in `fails` fail.
     pub fn new(_alloc: Global, pieces: Vec<Vec<u8>>, fails: Vec<u64>) -> Self
         ensures given { ⟦<MemSource as Source>⟧.given result ≡ Some [] }
         ensures left { ⟦<MemSource as Source>⟧.left result ≡ Some (joined pieces.items) }
@@ -52,9 +51,9 @@ impl MemSource {
 impl Source for MemSource {
     ghost faults = { λ s. s.calls.faults };
 
-    ghost given = { λ s. Some (bytes_before s.pieces.pieces.items s.pieces.whole s.pieces.at) };
+    ghost given = { λ s. pieces_given s.pieces };
 
-    ghost left = { λ s. Some (bytes_from s.pieces.pieces.items s.pieces.whole s.pieces.at) };
+    ghost left = { λ s. pieces_left s.pieces };
 
     ghost ended = { λ s. s.ended };
 
@@ -100,9 +99,9 @@ impl SteadySource {
 impl Source for SteadySource {
     ghost faults = { λ _. 0 };
 
-    ghost given = { λ s. Some (bytes_before s.pieces.pieces.items s.pieces.whole s.pieces.at) };
+    ghost given = { λ s. pieces_given s.pieces };
 
-    ghost left = { λ s. Some (bytes_from s.pieces.pieces.items s.pieces.whole s.pieces.at) };
+    ghost left = { λ s. pieces_left s.pieces };
 
     ghost ended = { λ s. s.ended };
 

@@ -1,12 +1,14 @@
 // Whole streams: reading a source to its end, and writing a piece to its end.
-ghost use Rattle.std.specs.Prelude.{◌≡◌, ◌<◌, ◌≤◌, List, ℕ, Bool, true, length, take, is_ok, if◌then◌else◌, OnOk, IfOk, IfErr, IfSome, IsErrOf};
-ghost use Rattle.std.specs.Io.KnownBytes.{Appends, IsAtEnd};
-ghost use Rattle.bp_base.specs.Moves.{Rose};
+ghost use Rattle.std.specs.Prelude.{◌≡◌, ◌<◌, List, ℕ, true, length, take, is_ok, if◌then◌else◌, OnOk, IfOk, IfErr, IfSome, IsErr, IsErrOf};
+ghost use Rattle.std.specs.Io.KnownBytes.{IsAtEnd};
+ghost use Rattle.bp_base.specs.Faults.{Counts};
+ghost use Rattle.bp_base.specs.Told.{Gains};
 ghost use Rattle.bp_base.specs.Whole.{Came, AnswersWhole};
 
 use crate::{Patience, ReadAllError, ReadGot, Sink, Source, WriteFault, Wrote};
 use std::alloc::Global;
 
+/// How many bytes a read asks of its source at most.
 const CHUNK: usize = 8 * 1024;
 
 /// Reads with `Forever` to the end, and answers all bytes given in this call.
@@ -14,15 +16,11 @@ const CHUNK: usize = 8 * 1024;
 /// Refused by `ReadFault`; by `TooLong` as soon as more than `max` bytes came; by `OutOfMemory`.
 pub fn read_all<S: Source>(alloc: Global, src: &mut S, max: usize) -> Result<Vec<u8>, ReadAllError>
     ensures came { (bytes : List ℕ)
-        × Came (S.given src.old) (S.given src.new) (S.left src.old) (S.left src.new) bytes
-        × AnswersWhole max result bytes }
+        × Came S.given S.left src.old src.new bytes × AnswersWhole max result bytes }
     ensures whole { IfOk result (λ all. IfSome (S.left src.old) (λ left. all.items ≡ left)) }
     ensures at_end { OnOk result (IsAtEnd (S.left src.new)) }
     ensures ended { S.ended src.new ≡ (if is_ok result then true else S.ended src.old) }
-
-    ensures counts { S.faults src.old ≤ S.faults src.new }
-    ensures fault { IsErrOf result ReadAllError.ReadFault → Rose (S.faults src.old) (S.faults src.new) }
-    ensures steady { ¬ IsErrOf result ReadAllError.ReadFault → S.faults src.new ≡ S.faults src.old }
+    ensures faults { Counts S.faults src.old src.new (IsErrOf result ReadAllError.ReadFault) }
 {
     let mut all = Vec::new(alloc);
     let mut chunk = [0; CHUNK];
@@ -43,13 +41,11 @@ pub fn read_all<S: Source>(alloc: Global, src: &mut S, max: usize) -> Result<Vec
 
 /// Writes the whole piece. It takes no memory, and leaves the flush to the caller.
 pub fn write_all<K: Sink>(sink: &mut K, piece: &[u8]) -> Result<(), WriteFault>
-    ensures ok { OnOk result (Appends (K.put sink.old) (K.put sink.new) piece.now) }
-    ensures written { IfErr result (λ fault. Appends (K.put sink.old) (K.put sink.new) (take fault.written piece.now)) }
+    ensures ok { OnOk result (Gains K.put sink.old sink.new piece.now) }
+    ensures written { IfErr result (λ fault. Gains K.put sink.old sink.new
+        (take fault.written piece.now)) }
     ensures within { IfErr result (λ fault. fault.written < length piece.now) }
-
-    ensures counts { K.faults sink.old ≤ K.faults sink.new }
-    ensures fault { IfErr result (λ _. Rose (K.faults sink.old) (K.faults sink.new)) }
-    ensures steady { OnOk result (K.faults sink.new ≡ K.faults sink.old) }
+    ensures faults { Counts K.faults sink.old sink.new (IsErr result) }
 {
     let mut written = 0;
     'writes: while written < piece.len() {

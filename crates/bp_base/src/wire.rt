@@ -1,8 +1,9 @@
 // A one-way wire, with both of its ends in one hand.
-ghost use Rattle.std.specs.Prelude.{◌≡◌, ◌↔◌, ℕ, ◌≤◌, List, length};
+ghost use Rattle.std.specs.Prelude.{◌≡◌, ℕ, List, length};
 ghost use Rattle.std.specs.declared.option.Option.{Option};
-ghost use Rattle.std.specs.Io.KnownBytes.{Appends, Keeps};
-ghost use Rattle.bp_base.specs.Moves.{Rose, PutIsSteady, GetIsSteady, put_bytes, got_bytes, GotFits, in_flight, GotAll, GivenIsFront};
+ghost use Rattle.bp_base.specs.Faults.{GoesOn};
+ghost use Rattle.bp_base.specs.Told.{Gains};
+ghost use Rattle.bp_base.specs.Moves.{put_bytes, got_bytes, GotFits, GetsAll, GivenIsFront};
 
 /// How a put went.
 #[derive(Clone, Copy, Debug, PartialEq, Eq)]
@@ -28,15 +29,17 @@ pub enum Got {
 
 /// A wire: bytes are put in at one end and come out at the other.
 ///
-/// An honest wire gives the bytes that were sent, in their order. A wire says of itself whether it is honest.
+/// An honest wire gives the bytes that were sent, in their order. A wire says of itself whether it
+/// is honest. A fault may be counted only in a call that answers `Failed`, which sends and gives
+/// nothing. The count stays at the last value of a `u64`.
 pub trait Wire {
     /// How often the wire has failed.
     ghost faults: { Self → ℕ };
 
-    /// All bytes put so far, where the wire tells them.
+    /// All bytes put so far, where the wire tells them. It tells them always, or never.
     ghost sent: { Self → Option (List ℕ) };
 
-    /// All bytes given so far, where the wire tells them.
+    /// All bytes given so far, where the wire tells them. It tells them always, or never.
     ghost given: { Self → Option (List ℕ) };
 
     /// Whether the wire is honest. No call changes it.
@@ -44,27 +47,19 @@ pub trait Wire {
 
     /// Sends the whole piece, or nothing.
     fn put(&mut self, piece: &[u8]) -> PutDone
-        ensures sent { Appends (sent self.old) (sent self.new) (put_bytes result piece.now) }
-        ensures given { Keeps (given self.old) (given self.new) }
-        ensures honest { honest self.old ↔ honest self.new }
-
-        ensures counts { faults self.old ≤ faults self.new }
-        ensures failed { result ≡ PutDone.Failed → Rose (faults self.old) (faults self.new) }
-        ensures steady { PutIsSteady result (faults self.old) (faults self.new) };
+        ensures sent { Gains sent self.old self.new (put_bytes result piece.now) }
+        ensures given { given self.new ≡ given self.old }
+        ensures wire { GoesOn faults honest self.old self.new (result ≡ PutDone.Failed) };
 
     /// Fills `into` with the next bytes, or its front with all that there are.
     fn get(&mut self, into: &mut [u8]) -> Got
         ensures fits { GotFits result (length into.old) }
-        ensures sent { Keeps (sent self.old) (sent self.new) }
-        ensures given { Appends (given self.old) (given self.new) (got_bytes result into.new) }
+        ensures sent { sent self.new ≡ sent self.old }
+        ensures given { Gains given self.old self.new (got_bytes result into.new) }
 
         // An honest wire gives less exactly where less is in flight.
-        ensures all { honest self.old → GotAll result (in_flight (sent self.old) (given self.old)) (length into.old) }
-        ensures honest { honest self.old ↔ honest self.new }
-
-        ensures counts { faults self.old ≤ faults self.new }
-        ensures failed { result ≡ Got.Failed → Rose (faults self.old) (faults self.new) }
-        ensures steady { GetIsSteady result (faults self.old) (faults self.new) };
+        ensures all { honest self.old → GetsAll sent given self.old (length into.old) result }
+        ensures wire { GoesOn faults honest self.old self.new (result ≡ Got.Failed) };
 
     /// What an honest wire has given is a front of what was sent.
     ghost front: { (wire : Self) → honest wire → GivenIsFront (sent wire) (given wire) };

@@ -1,6 +1,7 @@
 // Wires in memory.
 ghost use Rattle.std.specs.Prelude.{◌≡◌, ◌++◌, [], ℕ, List, Some, length, slice_set, take};
 ghost use Rattle.bp_base.specs.Moves.{GivenIsFront-take};
+ghost use Rattle.bp_base.specs.Forms.{wire_calls, bend_of, queue_put, queue_taken};
 
 use crate::calls::Calls;
 use crate::queue::Queue;
@@ -15,8 +16,6 @@ pub struct MemWire {
 }
 
 impl MemWire {
-    ghost use Rattle.bp_base.specs.Forms.{wire_calls};
-
     /// An empty wire. Its puts and gets are numbered together from 0, and those in `fails` fail.
     pub fn new(alloc: Global, fails: Vec<u64>) -> Self
         ensures sent { ⟦<MemWire as Wire>⟧.sent result ≡ Some [] }
@@ -56,9 +55,9 @@ impl MemWire {
 impl Wire for MemWire {
     ghost faults = { λ w. w.calls.faults };
 
-    ghost sent = { λ w. Some w.queue.bytes.items };
+    ghost sent = { λ w. queue_put w.queue };
 
-    ghost given = { λ w. Some (take w.queue.taken w.queue.bytes.items) };
+    ghost given = { λ w. queue_taken w.queue };
 
     ghost honest = { λ _. Unit {0} };
 
@@ -116,9 +115,9 @@ impl SteadyWire {
 impl Wire for SteadyWire {
     ghost faults = { λ _. 0 };
 
-    ghost sent = { λ w. Some w.queue.bytes.items };
+    ghost sent = { λ w. queue_put w.queue };
 
-    ghost given = { λ w. Some (take w.queue.taken w.queue.bytes.items) };
+    ghost given = { λ w. queue_taken w.queue };
 
     ghost honest = { λ _. Unit {0} };
 
@@ -142,9 +141,8 @@ pub struct BentWire {
 }
 
 impl BentWire {
-    ghost use Rattle.bp_base.specs.Forms.{bend_of};
-
-    /// An empty wire that will give `byte` in place of the byte at `at`, counted from 0 in all that it gives.
+    /// An empty wire that will give `byte` in place of the byte at `at`, counted from 0 in all that
+    /// it gives.
     pub fn new(alloc: Global, at: u64, byte: u8) -> Self
         ensures sent { ⟦<BentWire as Wire>⟧.sent result ≡ Some [] }
         ensures given { ⟦<BentWire as Wire>⟧.given result ≡ Some [] }
@@ -170,7 +168,7 @@ impl BentWire {
 impl Wire for BentWire {
     ghost faults = { λ _. 0 };
 
-    ghost sent = { λ w. Some w.queue.bytes.items };
+    ghost sent = { λ w. queue_put w.queue };
 
     ghost given = { λ w. Some (slice_set (take w.queue.taken w.queue.bytes.items) w.at w.byte) };
 
@@ -191,7 +189,8 @@ impl Wire for BentWire {
     }
 }
 
-// Changes the byte at place `at` of a stream, where it is one of these, which stand from place `from` on.
+// Changes the byte at place `at` of a stream, where it is one of these, which stand from place
+// `from` on.
 fn bend(into: &mut [u8], from: usize, at: u64, byte: u8)
     ensures { (before : List ℕ) → length before ≡ from
         → slice_set (before ++ into.old) at byte ≡ slice_set before at byte ++ into.new }

@@ -2,8 +2,7 @@
 use Rattle.std.proofs.Common.{arith, ◌≡◌, ℕ, List, [], length, take, refl, sym, ◌∙◌, subst, inl, inr}
 use Rattle.std.specs.Prelude.{Option, Some, None, String, ◌⊎◌, IfSome}
 use Rattle.std.specs.declared.alloc.Global.{Global}
-use Rattle.std.specs.Io.KnownBytes.{Appends, Consumes, Keeps}
-use Rattle.bp_base.specs.Whole.{Came}
+use Rattle.std.specs.Io.KnownBytes.{append_known}
 use Rattle.std.proofs.lemmas.List.{append-nil, take_all}
 use Rattle.rpc_world.specs.declared.schedule.Schedule.{Schedule}
 use Rattle.rpc_world.specs.Input.{IsInput, IsBadLine}
@@ -11,16 +10,10 @@ use Rattle.rpc_tool.specs.declared.status.Status.{Status}
 use Rattle.rpc_tool.specs.declared.status.Status.TheVariants.{Done, Refused, Usage, ReadFault, WriteFault, WireFault, OutOfMemory, TooLong}
 use Rattle.rpc_tool.specs.Means.{IsAnswer, Means, IsAnswered, IsReadThrough, IsReplay, refused_line, usage_line, IsReadWhole}
 
-pub appends-kept : (before middle now : Option (List ℕ)) (text : List ℕ) → Appends before middle text → Keeps middle now → Appends before now text
-appends-kept None middle now text appends keeps = tt
-appends-kept (Some old) None now text appends keeps = absurd appends
-appends-kept (Some old) (Some mid) None text appends keeps = absurd keeps
-appends-kept (Some old) (Some mid) (Some new) text appends keeps = keeps ∙ appends
-
 -- all of a text is its longest front
-pub appends-front : (before now : Option (List ℕ)) (text : List ℕ) → Appends before now text → (count : ℕ) × Appends before now (take count text)
+pub appends-front : (before now : Option (List ℕ)) (text : List ℕ) → now ≡ append_known before text → (count : ℕ) × (now ≡ append_known before (take count text))
 appends-front before now text appends =
-    (length text, subst (λ t. Appends before now t) (sym (take_all (length text) text (omega arith))) appends)
+    (length text, subst (λ t. now ≡ append_known before t) (sym (take_all (length text) text (omega arith))) appends)
 
 pub answered-means : (words : List (String Global)) (input : List ℕ) (Reports : Schedule → List ℕ → Type 0) (before now : Option (List ℕ))
     (status : Status) (text : List ℕ) (result : Status) → IsAnswer words input Reports status text → IsAnswered status text before now result
@@ -41,7 +34,7 @@ pub not-too-long : (status : Status) → IsReadThrough status → status ≡ Too
 not-too-long status through same = let wrong = subst (λ s. IsReadThrough s) same through in wrong
 
 pub memory-means : (words : List (String Global)) (input : List ℕ) (Reports : Schedule → List ℕ → Type 0) (before now : Option (List ℕ)) (result : Status)
-    → IsReplay words → result ≡ OutOfMemory → Keeps before now → Means words input Reports before now result
+    → IsReplay words → result ≡ OutOfMemory → (now ≡ before) → Means words input Reports before now result
 memory-means words input Reports before now result is_replay none keeps = subst (λ r. Means words input Reports before now r) (sym none) (is_replay, keeps)
 
 pub done-means : (words : List (String Global)) (input : List ℕ) (Reports : Schedule → List ℕ → Type 0) (before now : Option (List ℕ)) (s : Schedule)
@@ -52,7 +45,7 @@ done-means words input Reports before now s text result is_replay spelled report
 
 pub refused-means : (words : List (String Global)) (input : List ℕ) (Reports : Schedule → List ℕ → Type 0) (before now : Option (List ℕ)) (number : ℕ)
     (result : Status) → IsReplay words → IsBadLine input number
-    → IsAnswered Refused (refused_line number) before now result ⊎ ((result ≡ OutOfMemory) × Keeps before now) → Means words input Reports before now result
+    → IsAnswered Refused (refused_line number) before now result ⊎ ((result ≡ OutOfMemory) × (now ≡ before)) → Means words input Reports before now result
 refused-means words input Reports before now number result is_replay bad (inl answered) =
     answered-means words input Reports before now Refused (refused_line number) result (is_replay, (number, bad, refl)) answered
 refused-means words input Reports before now number result is_replay bad (inr memory) = memory-means words input Reports before now result is_replay memory.0 memory.1
@@ -64,18 +57,6 @@ usage-means words Reports before now result unknown answered = answered-means wo
 pub usage-short : (before now : Option (List ℕ)) (text : List ℕ) (result : Status) → IsAnswered Usage text before now result → result ≡ TooLong → ⊥
 usage-short before now text result (inl written) long = let wrong : Usage ≡ TooLong = sym written.0 ∙ long in cc
 usage-short before now text result (inr failed) long = let wrong : WriteFault ≡ TooLong = sym failed.0 ∙ long in cc
-
--- no bytes come where nothing is read
-appends-nothing : (told : Option (List ℕ)) → Appends told told []
-appends-nothing None = tt
-appends-nothing (Some bytes) = sym (append-nil bytes)
-
-consumes-nothing : (told : Option (List ℕ)) → Consumes told told []
-consumes-nothing None = tt
-consumes-nothing (Some bytes) = refl
-
-pub nothing-came : (given left : Option (List ℕ)) → Came given given left left []
-nothing-came given left = record { given = appends-nothing given; left = consumes-nothing left }
 
 -- ---- from the bytes that came to the whole input
 

@@ -3,7 +3,7 @@ use Rattle.std.proofs.Common.{arith, ◌≡◌, ◌≤◌, ◌<◌, ℕ, zero, s
 use Rattle.std.specs.Prelude.{Option, Some, None, All, ◌&&◌, nat_eq, nat_le, if◌then◌else◌}
 use Rattle.std.specs.List.{flat_map, list_any}
 use Rattle.std.specs.Str.{bytes_eq}
-use Rattle.std.specs.Io.KnownBytes.{Keeps, Appends}
+use Rattle.std.specs.Io.KnownBytes.{append_known}
 use Rattle.std.proofs.lemmas.List.{append-nil, take-append-le, take-append-drop, length-take, take_all, append_cancel_left, length-drop}
 use Rattle.std.proofs.lemmas.List.Elements.{All-append}
 use Rattle.std.proofs.lemmas.Bool.{cases_lt, le-leb, lt-leb, le-ltb, ltb-true}
@@ -19,24 +19,22 @@ use Rattle.rpc_tool.specs.Kept.{awaited_of, Waits}
 use Rattle.rpc_tool.specs.Stands.{Flows, Stands, labels_of}
 use Rattle.rpc_tool.proofs.Same.{same-message}
 use Rattle.rpc_tool.specs.Heads.{IsGivenText}
-use Rattle.rpc_tool.proofs.Texts.{front-taken, keeps-some, message-long}
+use Rattle.rpc_tool.proofs.Texts.{front-taken, message-long}
 
 -- ---- one way
 
-pub appends-some : (before now : Option (List ℕ)) (bytes more : List ℕ) → Appends before now more → before ≡ Some bytes → now ≡ Some (bytes ++ more)
-appends-some None now bytes more appends known = cc known
-appends-some (Some old) None bytes more appends known = absurd appends
-appends-some (Some old) (Some new) bytes more appends known = let same : old ≡ bytes = cc in ap (λ t. Some t) (appends ∙ ap (λ t. t ++ more) same)
+pub gains-some : (before now : Option (List ℕ)) (bytes more : List ℕ) → now ≡ append_known before more → before ≡ Some bytes → now ≡ Some (bytes ++ more)
+gains-some before now bytes more gains known = gains ∙ ap (λ k. append_known k more) known
 
 -- more is put
 pub flows-more : (put put' : ℕ) (bytes stream piece : List ℕ) (moved : ℕ) (sent given sent' given' : Option (List ℕ))
-    → Flows put bytes stream moved sent given → Appends sent sent' piece → Keeps given given' → put' ≡ put + length piece → Flows put' bytes (stream ++ piece) moved sent' given'
+    → Flows put bytes stream moved sent given → sent' ≡ append_known sent piece → given' ≡ given → put' ≡ put + length piece → Flows put' bytes (stream ++ piece) moved sent' given'
 flows-more put put' bytes stream piece moved sent given sent' given' flows appends keeps more = record {
   put_all = more ∙ (ap (λ n. n + length piece) flows.put_all ∙ sym (length-append stream piece));
   within = let inside = flows.within in omega (arith, length-append stream piece);
   came = flows.came ∙ sym (take-append-le moved stream piece flows.within);
-  told_sent = appends-some sent sent' stream piece appends flows.told_sent;
-  told_given = keeps-some given given' bytes keeps flows.told_given;
+  told_sent = gains-some sent sent' stream piece appends flows.told_sent;
+  told_given = keeps ∙ flows.told_given;
 }
 
 pub came-length : (put : ℕ) (bytes stream : List ℕ) (moved : ℕ) (sent given : Option (List ℕ)) → Flows put bytes stream moved sent given → length bytes ≡ moved
@@ -45,13 +43,13 @@ came-length put bytes stream moved sent given flows =
 
 -- bytes move
 pub flows-moved : (put : ℕ) (bytes bytes' stream : List ℕ) (moved count : ℕ) (sent given sent' given' : Option (List ℕ))
-    → Flows put bytes stream moved sent given → Keeps sent sent' → given' ≡ Some bytes' → moved + count ≤ length stream
+    → Flows put bytes stream moved sent given → sent' ≡ sent → given' ≡ Some bytes' → moved + count ≤ length stream
     → bytes' ≡ take (length bytes + count) stream → Flows put bytes' stream (moved + count) sent' given'
 flows-moved put bytes bytes' stream moved count sent given sent' given' flows keeps told fits came = record {
   put_all = flows.put_all;
   within = fits;
   came = came ∙ ap (λ n. take (n + count) stream) (came-length put bytes stream moved sent given flows);
-  told_sent = keeps-some sent sent' stream keeps flows.told_sent;
+  told_sent = keeps ∙ flows.told_sent;
   told_given = told;
 }
 
@@ -300,7 +298,7 @@ all-one text is_text zero d within = is_text
 all-one text is_text (suc k) d within = absurd (omega arith)
 
 pub asked : (p p' : Pair) (w : World) (us ug us' ug' ds dg : Option (List ℕ)) (label name text : List ℕ) (version : ℕ) → Stands p w us ug ds dg
-    → p.client.label ≡ None → IsText text → Appends us us' (message (query_lead p.name p.version) text) → Keeps ug ug'
+    → p.client.label ≡ None → IsText text → us' ≡ append_known us (message (query_lead p.name p.version) text) → ug' ≡ ug
     → p'.name ≡ p.name → p'.version ≡ p.version → p'.client.label ≡ Some label → p'.client.inbox.bytes.items ≡ p.client.inbox.bytes.items
     → p'.client.put ≡ p.client.put + length (message (query_lead p.name p.version) text) → p'.server ≡ p.server
     → Stands p' (effect w (Ask label name version text)) us' ug' ds dg
@@ -318,12 +316,12 @@ asked p p' w us ug us' ug' ds dg label name text version stands fresh is_text ap
       responses = stands.responses;
       up = flows-as _ _ _ _ _ _ w.up_moved us' ug' refl (ap (λ s. s.inbox.bytes.items) same_server) (sym (stream-more (query w) w.ups text))
           (flows-more p.client.put p'.client.put p.server.inbox.bytes.items (up_stream w) (query w text) w.up_moved us ug us' ug' stands.up
-          (subst (λ q. Appends us us' q) spelled appends) keeps (put ∙ ap (λ q. p.client.put + length q) spelled));
+          (appends ∙ ap (append_known us) spelled) keeps (put ∙ ap (λ q. p.client.put + length q) spelled));
       down = flows-as _ _ _ _ _ _ w.down_moved ds dg (ap (λ s. s.put) same_server) same_bytes refl stands.down;
     }
 
 pub responded : (p p' : Pair) (w : World) (us ug ds dg ds' dg' : Option (List ℕ)) (label text : List ℕ) → Stands p w us ug ds dg
-    → p.server.answered ≡ false → is_waiting w ≡ true → IsText text → Appends ds ds' (message response_lead text) → Keeps dg dg'
+    → p.server.answered ≡ false → is_waiting w ≡ true → IsText text → ds' ≡ append_known ds (message response_lead text) → dg' ≡ dg
     → p'.name ≡ p.name → p'.version ≡ p.version → p'.server.answered ≡ true → p'.server.inbox ≡ p.server.inbox
     → p'.server.put ≡ p.server.put + length (message response_lead text) → p'.client ≡ p.client
     → Stands p' (effect w (Reply label text)) us ug ds' dg'
@@ -367,7 +365,7 @@ down-fits p w us ug ds dg count stands =
     let fits = moved-fits count (p.server.put - length p.client.inbox.bytes.items) in
     let all = stands.down.put_all in let came = came-length _ _ _ _ _ _ stands.down in let inside = stands.down.within in omega arith
 
-pub moved-up : (p p' : Pair) (w : World) (us ug us' ug' ds dg : Option (List ℕ)) (count : Option ℕ) (by : ℕ) → Stands p w us ug ds dg → Keeps us us'
+pub moved-up : (p p' : Pair) (w : World) (us ug us' ug' ds dg : Option (List ℕ)) (count : Option ℕ) (by : ℕ) → Stands p w us ug ds dg → us' ≡ us
     → ug' ≡ Some p'.server.inbox.bytes.items
     → p'.server.inbox.bytes.items ≡ take (length p.server.inbox.bytes.items + moved_of count (p.client.put - length p.server.inbox.bytes.items)) (up_stream w)
     → p'.name ≡ p.name → p'.version ≡ p.version → p'.client ≡ p.client → p'.server.answered ≡ p.server.answered → p'.server.put ≡ p.server.put
@@ -391,7 +389,7 @@ moved-up p p' w us ug us' ug' ds dg count by stands keeps told came same_name sa
       down = flows-as _ _ _ _ _ _ w.down_moved ds dg same_put (ap (λ c. c.inbox.bytes.items) same_client) refl stands.down;
     }
 
-pub moved-down : (p p' : Pair) (w : World) (us ug ds dg ds' dg' : Option (List ℕ)) (count : Option ℕ) (by : ℕ) → Stands p w us ug ds dg → Keeps ds ds'
+pub moved-down : (p p' : Pair) (w : World) (us ug ds dg ds' dg' : Option (List ℕ)) (count : Option ℕ) (by : ℕ) → Stands p w us ug ds dg → ds' ≡ ds
     → dg' ≡ Some p'.client.inbox.bytes.items
     → p'.client.inbox.bytes.items ≡ take (length p.client.inbox.bytes.items + moved_of count (p.server.put - length p.client.inbox.bytes.items)) (down_stream w)
     → p'.name ≡ p.name → p'.version ≡ p.version → p'.server ≡ p.server → p'.client.label ≡ p.client.label → p'.client.put ≡ p.client.put

@@ -3,7 +3,6 @@ use Rattle.std.proofs.Common.{arith, ◌≡◌, ◌≤◌, ℕ, ◌+◌, ◌-◌
 use Rattle.std.specs.Prelude.{Option, Some, None, MatchOption, Bool, IsTrue, ◌==◌, ◌↔◌, replicate}
 use Rattle.std.proofs.lemmas.Bool.{eq-eqb, eqb-true}
 use denote.Bor.{Bor}
-use Rattle.std.specs.Io.KnownBytes.{Keeps}
 use Rattle.std.specs.Char.{is_ascii_lowercase}
 use Rattle.std.proofs.lemmas.List.{take-append-drop, length-replicate, length-take, take_all, nil_from_length}
 use Rattle.std.proofs.Math.Seq.{take-append_seam, drop-append_seam}
@@ -176,11 +175,6 @@ begins-taken whole front n (rest, same) =
 pub front-taken : (awaited : Option (List ℕ)) (n : ℕ) (stream : List ℕ) → IsFront awaited stream → IsFront awaited (take n stream)
 front-taken None n stream begins = begins-taken header stream n begins
 front-taken (Some lead) n stream (text, is_text, begins) = (text, is_text, begins-taken (header ++ message lead text) stream n begins)
-
-pub keeps-some : (before now : Option (List ℕ)) (bytes : List ℕ) → Keeps before now → before ≡ Some bytes → now ≡ Some bytes
-keeps-some None now bytes keeps known = cc known
-keeps-some (Some old) None bytes keeps known = absurd keeps
-keeps-some (Some old) (Some new) bytes keeps known = cc
 
 -- the next piece of a movement is no longer than what is left of the stream
 pub piece-fits : (start count left by size : ℕ) (inbox stream buffer : List ℕ) → inbox ≡ take (start + (count - left)) stream → start + count ≤ length stream

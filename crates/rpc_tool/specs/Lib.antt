@@ -1,5 +1,6 @@
 pub mod Heads
 pub mod Kept
+pub mod Carried
 pub mod Stands
 pub mod Showing
 pub mod Replayed

@@ -1,7 +1,7 @@
 -- What each status of a run means.
 use Rattle.std.specs.Prelude.{Option, ◌≡◌, ℕ, List, [], ◌∷◌, take, codes, string_bytes, String, ◌⊎◌}
 use Rattle.std.specs.declared.alloc.Global.{Global}
-use Rattle.std.specs.Io.KnownBytes.{Appends, Keeps}
+use Rattle.std.specs.Io.KnownBytes.{append_known}
 use Rattle.rpc_world.specs.declared.schedule.Schedule.{Schedule}
 use Rattle.rpc_world.specs.Input.{IsInput, IsBadLine}
 use Rattle.rpc_world.specs.Report.{line, at_line}
@@ -52,7 +52,7 @@ IsAnswer words input Reports TooLong text = ⊥
 
 -- an answer was written whole
 abbrev pub IsWritten : List (String Global) → List ℕ → (Schedule → List ℕ → Type 0) → Status → Option (List ℕ) → Option (List ℕ) → Type 0
-IsWritten words input Reports status before now = (text : List ℕ) × IsAnswer words input Reports status text × Appends before now text
+IsWritten words input Reports status before now = (text : List ℕ) × IsAnswer words input Reports status text × (now ≡ append_known before text)
 
 -- What each status means: an answer was written whole, or a front of one where writing failed, or nothing was written. A wire
 -- fails only where the input spells a schedule.
@@ -61,16 +61,16 @@ Means words input Reports before now Done = IsWritten words input Reports Done b
 Means words input Reports before now Refused = IsWritten words input Reports Refused before now
 Means words input Reports before now Usage = IsWritten words input Reports Usage before now
 Means words input Reports before now WriteFault =
-    (status : Status) × (text : List ℕ) × (count : ℕ) × IsAnswer words input Reports status text × Appends before now (take count text)
-Means words input Reports before now WireFault = IsReplay words × ((s : Schedule) × IsInput input s) × Keeps before now
-Means words input Reports before now ReadFault = IsReplay words × Keeps before now
-Means words input Reports before now OutOfMemory = IsReplay words × Keeps before now
-Means words input Reports before now TooLong = IsReplay words × Keeps before now
+    (status : Status) × (text : List ℕ) × (count : ℕ) × IsAnswer words input Reports status text × (now ≡ append_known before (take count text))
+Means words input Reports before now WireFault = IsReplay words × ((s : Schedule) × IsInput input s) × (now ≡ before)
+Means words input Reports before now ReadFault = IsReplay words × (now ≡ before)
+Means words input Reports before now OutOfMemory = IsReplay words × (now ≡ before)
+Means words input Reports before now TooLong = IsReplay words × (now ≡ before)
 
 -- an answer was written whole, or else a front of it and the status says so
 abbrev pub IsAnswered : Status → List ℕ → Option (List ℕ) → Option (List ℕ) → Status → Type 0
 IsAnswered status text before now result =
-    ((result ≡ status) × Appends before now text) ⊎ ((result ≡ WriteFault) × ((count : ℕ) × Appends before now (take count text)))
+    ((result ≡ status) × (now ≡ append_known before text)) ⊎ ((result ≡ WriteFault) × ((count : ℕ) × (now ≡ append_known before (take count text))))
 
 -- what a run does after its words and its input were read: the statuses that are left
 abbrev pub IsReadThrough : Status → Type 0
@@ -100,7 +100,7 @@ pub record IsReportOf (text : List ℕ) (before now up_sent up_given down_sent d
   pub spelled : IsInput text schedule
   pub report : List ℕ
   pub reported : IsReported schedule report up_sent up_given down_sent down_given
-  pub written : Appends before now report
+  pub written : now ≡ append_known before report
 
 -- what was written is the replay of the schedule that a text spells, and the wires tell its last world
 pub record IsReplayOf (text : List ℕ) (before now up_sent up_given down_sent down_given : Option (List ℕ)) : Type 0 where
@@ -108,4 +108,4 @@ pub record IsReplayOf (text : List ℕ) (before now up_sent up_given down_sent d
   pub spelled : IsInput text schedule
   pub report : List ℕ
   pub replayed : IsReplayed schedule report up_sent up_given down_sent down_given
-  pub written : Appends before now report
+  pub written : now ≡ append_known before report

@@ -17,6 +17,10 @@ pub record AreFresh (up_sent up_given down_sent down_given : Option (List ℕ)) 
   pub down_put : down_sent ≡ Some []
   pub down_given_none : down_given ≡ Some []
 
+-- the same of two wires, by what they tell
+abbrev pub FreshOver : {W : Type 0} → (W → Option (List ℕ)) → (W → Option (List ℕ)) → W → W → Type 0
+FreshOver sent given up down = AreFresh (sent up) (given up) (sent down) (given down)
+
 -- the world after all events of a schedule
 abbrev pub last_world : Schedule → World
 last_world s = after (first_world s.name s.version) s.events
@@ -28,6 +32,11 @@ pub record IsReplayed (s : Schedule) (report : List ℕ) (up_sent up_given down_
   pub up_came : up_given ≡ Some (take (last_world s).up_moved (up_stream (last_world s)))
   pub down_told : down_sent ≡ Some (down_stream (last_world s))
   pub down_came : down_given ≡ Some (take (last_world s).down_moved (down_stream (last_world s)))
+
+abbrev pub ReplayedOver : {W : Type 0} → (W → Option (List ℕ)) → (W → Option (List ℕ)) → Schedule
+    → W → W → List ℕ → Type 0
+ReplayedOver sent given s up down report =
+    IsReplayed s report (sent up) (given up) (sent down) (given down)
 
 -- the label of a dispatch that an event asks for
 abbrev pub asked_label : Event → Option (List ℕ)
@@ -74,6 +83,11 @@ pub record IsReported (s : Schedule) (report : List ℕ) (up_sent up_given down_
   pub down_told : down_sent ≡ Some down_bytes
   pub down_came : down_given ≡ Some down_came_bytes
   pub seen : IsSeen s shown up_bytes up_came_bytes down_bytes down_came_bytes
+
+abbrev pub ReportedOver : {W : Type 0} → (W → Option (List ℕ)) → (W → Option (List ℕ)) → Schedule
+    → W → W → List ℕ → Type 0
+ReportedOver sent given s up down report =
+    IsReported s report (sent up) (given up) (sent down) (given down)
 
 -- a client made its dispatch for an ask among some events, or made none
 abbrev pub IsAsked : Option (List ℕ) → List Event → Type 0

@@ -3,7 +3,8 @@ use Rattle.std.specs.Prelude.{Option, Some, None, ◌≡◌, ℕ, ◌≤◌, if�
 use Rattle.rpc_world.specs.declared.schedule.Event.{Event}
 use Rattle.rpc_world.specs.declared.schedule.Event.TheVariants.{Ask, Reply, Up, Down}
 use Rattle.rpc_world.specs.Stream.{IsText}
-use Rattle.rpc_world.specs.World.{World, up_stream, down_stream}
+use Rattle.rpc_world.specs.declared.schedule.Refusal.{Refusal}
+use Rattle.rpc_world.specs.World.{World, up_stream, down_stream, refusal, step}
 use Rattle.rpc_tool.specs.declared.pair.Pair.{Pair}
 
 -- the labels of the dispatches of a client that makes at most one
@@ -32,6 +33,17 @@ pub record Stands (p : Pair) (w : World) (up_sent up_given down_sent down_given 
   pub up : Flows p.client.put p.server.inbox.bytes.items (up_stream w) w.up_moved up_sent up_given
   pub down : Flows p.server.put p.client.inbox.bytes.items (down_stream w) w.down_moved down_sent down_given
 
+-- the same of the two wires, by what they tell
+abbrev pub StandsOver : {W : Type 0} → (W → Option (List ℕ)) → (W → Option (List ℕ)) → Pair
+    → World → W → W → Type 0
+StandsOver sent given p w up down = Stands p w (sent up) (given up) (sent down) (given down)
+
+-- the answer to an event is the world's, and the pair stands for the world after it
+abbrev pub StepsTo : {W : Type 0} → (W → Option (List ℕ)) → (W → Option (List ℕ)) → Pair
+    → World → Event → W → W → Option Refusal → Type 0
+StepsTo sent given p w event up down answer =
+    (answer ≡ refusal w event) × StandsOver sent given p (step w event) up down
+
 -- one way of the pair over any wire: what came to the reader is what the wire gave, and the bytes put were counted
 pub record Carries (put : ℕ) (bytes : List ℕ) (sent given : Option (List ℕ)) : Type 0 where
   pub came : given ≡ Some bytes
@@ -43,6 +55,10 @@ pub record Carries (put : ℕ) (bytes : List ℕ) (sent given : Option (List ℕ
 pub record Tells (p : Pair) (up_sent up_given down_sent down_given : Option (List ℕ)) : Type 0 where
   pub up : Carries p.client.put p.server.inbox.bytes.items up_sent up_given
   pub down : Carries p.server.put p.client.inbox.bytes.items down_sent down_given
+
+abbrev pub TellsOver : {W : Type 0} → (W → Option (List ℕ)) → (W → Option (List ℕ)) → Pair
+    → W → W → Type 0
+TellsOver sent given p up down = Tells p (sent up) (given up) (sent down) (given down)
 
 -- a client that made its dispatch is asked for no other
 abbrev pub MayStep : Option (List ℕ) → Event → Type 0

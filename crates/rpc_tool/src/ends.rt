@@ -1,7 +1,7 @@
 // The two ends: what each keeps, and what each puts.
 ghost use Rattle.std.specs.Prelude.{Option, Some, None, Bool, true, false, [], ◌≡◌, ◌+◌, ◌≤◌, ◌↔◌, ◌++◌, ℕ, List, length, OnOk, IfOk, IsErrOf, IsTrue};
-ghost use Rattle.std.specs.Io.KnownBytes.{Appends, Keeps};
-ghost use Rattle.bp_base.specs.Moves.{Rose};
+ghost use Rattle.bp_base.specs.Faults.{GoesOn};
+ghost use Rattle.bp_base.specs.Told.{Gains};
 ghost use Rattle.rpc_world.specs.Stream.{header, message, query_lead, response_lead, IsText};
 ghost use Rattle.rpc_tool.specs.Kept.{awaited_of, Waits};
 ghost use Rattle.rpc_tool.specs.declared.failure.Failure.TheVariants as failure;
@@ -40,12 +40,9 @@ impl Client {
     /// A client whose header was put.
     #[tactic(auto, unfolding(rpc_world::specs::Stream::header))]
     pub fn open<W: Wire>(alloc: Global, up: &mut W) -> Result<Client, Failure>
-        ensures sent { OnOk result (Appends (W.sent up.old) (W.sent up.new) header) }
-        ensures given { Keeps (W.given up.old) (W.given up.new) }
-        ensures honest { W.honest up.old ↔ W.honest up.new }
-        ensures counts { W.faults up.old ≤ W.faults up.new }
-        ensures fault { IsErrOf result failure.WireFault → Rose (W.faults up.old) (W.faults up.new) }
-        ensures steady { ¬ IsErrOf result failure.WireFault → W.faults up.new ≡ W.faults up.old }
+        ensures sent { OnOk result (Gains W.sent up.old up.new header) }
+        ensures given { W.given up.new ≡ W.given up.old }
+        ensures wire { GoesOn W.faults W.honest up.old up.new (IsErrOf result failure.WireFault) }
         ensures label { IfOk result (λ client. client.label ≡ None) }
         ensures bytes { IfOk result (λ client. client.inbox.bytes.items ≡ []) }
         ensures put { IfOk result (λ client. client.put ≡ length header) }
@@ -74,12 +71,9 @@ impl Client {
         requires first { self.old.label ≡ None }
         requires lead { length lead.now ≤ 100 }
         requires text { IsText text.now }
-        ensures sent { OnOk result (Appends (W.sent up.old) (W.sent up.new) (message lead.now text.now)) }
-        ensures given { Keeps (W.given up.old) (W.given up.new) }
-        ensures honest { W.honest up.old ↔ W.honest up.new }
-        ensures counts { W.faults up.old ≤ W.faults up.new }
-        ensures fault { IsErrOf result failure.WireFault → Rose (W.faults up.old) (W.faults up.new) }
-        ensures steady { ¬ IsErrOf result failure.WireFault → W.faults up.new ≡ W.faults up.old }
+        ensures sent { OnOk result (Gains W.sent up.old up.new (message lead.now text.now)) }
+        ensures given { W.given up.new ≡ W.given up.old }
+        ensures wire { GoesOn W.faults W.honest up.old up.new (IsErrOf result failure.WireFault) }
         ensures label { OnOk result (self.new.label ≡ Some label) }
         ensures bytes { self.new.inbox.bytes ≡ self.old.inbox.bytes }
         ensures put { OnOk result (self.new.put ≡ self.old.put + length (message lead.now text.now)) }
@@ -104,12 +98,9 @@ impl Server {
         down: &mut W,
     ) -> Result<Server, Failure>
         requires { length name.now ≤ 32 }
-        ensures sent { OnOk result (Appends (W.sent down.old) (W.sent down.new) header) }
-        ensures given { Keeps (W.given down.old) (W.given down.new) }
-        ensures honest { W.honest down.old ↔ W.honest down.new }
-        ensures counts { W.faults down.old ≤ W.faults down.new }
-        ensures fault { IsErrOf result failure.WireFault → Rose (W.faults down.old) (W.faults down.new) }
-        ensures steady { ¬ IsErrOf result failure.WireFault → W.faults down.new ≡ W.faults down.old }
+        ensures sent { OnOk result (Gains W.sent down.old down.new header) }
+        ensures given { W.given down.new ≡ W.given down.old }
+        ensures wire { GoesOn W.faults W.honest down.old down.new (IsErrOf result failure.WireFault) }
         ensures answered { IfOk result (λ server. server.answered ≡ false) }
         ensures awaited { IfOk result (λ server. server.inbox.awaited ≡ Some (query_lead name.now version)) }
         ensures bytes { IfOk result (λ server. server.inbox.bytes.items ≡ []) }
@@ -144,12 +135,9 @@ impl Server {
     ) -> Result<(), Failure>
         requires first { self.old.answered ≡ false }
         requires text { IsText text.now }
-        ensures sent { OnOk result (Appends (W.sent down.old) (W.sent down.new) (message response_lead text.now)) }
-        ensures given { Keeps (W.given down.old) (W.given down.new) }
-        ensures honest { W.honest down.old ↔ W.honest down.new }
-        ensures counts { W.faults down.old ≤ W.faults down.new }
-        ensures fault { IsErrOf result failure.WireFault → Rose (W.faults down.old) (W.faults down.new) }
-        ensures steady { ¬ IsErrOf result failure.WireFault → W.faults down.new ≡ W.faults down.old }
+        ensures sent { OnOk result (Gains W.sent down.old down.new (message response_lead text.now)) }
+        ensures given { W.given down.new ≡ W.given down.old }
+        ensures wire { GoesOn W.faults W.honest down.old down.new (IsErrOf result failure.WireFault) }
         ensures answered { OnOk result (self.new.answered ≡ true) }
         ensures inbox { self.new.inbox ≡ self.old.inbox }
         ensures put { OnOk result (self.new.put ≡ self.old.put + length (message response_lead text.now)) }
@@ -164,12 +152,9 @@ impl Server {
 
 /// Puts a whole piece to a wire.
 fn put<W: Wire>(wire: &mut W, piece: &[u8]) -> Result<(), Failure>
-    ensures sent { OnOk result (Appends (W.sent wire.old) (W.sent wire.new) piece.now) }
-    ensures given { Keeps (W.given wire.old) (W.given wire.new) }
-    ensures honest { W.honest wire.old ↔ W.honest wire.new }
-    ensures counts { W.faults wire.old ≤ W.faults wire.new }
-    ensures fault { IsErrOf result failure.WireFault → Rose (W.faults wire.old) (W.faults wire.new) }
-    ensures steady { ¬ IsErrOf result failure.WireFault → W.faults wire.new ≡ W.faults wire.old }
+    ensures sent { OnOk result (Gains W.sent wire.old wire.new piece.now) }
+    ensures given { W.given wire.new ≡ W.given wire.old }
+    ensures wire { GoesOn W.faults W.honest wire.old wire.new (IsErrOf result failure.WireFault) }
 {
     match wire.put(piece) {
         PutDone::Done => Ok(()),

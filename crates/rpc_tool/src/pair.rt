@@ -2,11 +2,10 @@
 ghost use Rattle.std.specs.Prelude.{Option, Some, None, Bool, true, false, [], ◌≡◌, ◌+◌, ◌-◌, ◌≤◌, ◌↔◌, ◌⊎◌, ◌&&◌, not, nat_eq, ℕ, List, length, OnOk, IfOk, IsErrOf, IsTrue};
 ghost use Rattle.std.specs.Str.{bytes_eq};
 ghost use Rattle.std.specs.List.{list_any};
-ghost use Rattle.std.specs.Io.KnownBytes.{Appends, Keeps};
-ghost use Rattle.bp_base.specs.Moves.{Rose};
+ghost use Rattle.bp_base.specs.Faults.{GoesOn, BothGoOn};
 ghost use Rattle.rpc_world.specs.declared.schedule.Event.TheVariants as event;
 ghost use Rattle.rpc_world.specs.Stream.{query_lead, IsText};
-ghost use Rattle.rpc_world.specs.World.{World, first_world, refusal, effect, step, moved_of};
+ghost use Rattle.rpc_world.specs.World.{World, first_world, effect, moved_of};
 ghost use Rattle.rpc_world.specs.Input.{IsName, IsEvent};
 ghost use Rattle.rpc_tool.specs.declared.failure.Failure.TheVariants as failure;
 
@@ -31,8 +30,8 @@ pub struct Pair {
 }
 
 impl Pair {
-    ghost use Rattle.rpc_tool.specs.Replayed.{AreFresh};
-    ghost use Rattle.rpc_tool.specs.Stands.{Stands, Tells, MayStep, LabelAfter, labels_of};
+    ghost use Rattle.rpc_tool.specs.Replayed.{FreshOver};
+    ghost use Rattle.rpc_tool.specs.Stands.{StandsOver, TellsOver, StepsTo, MayStep, LabelAfter, labels_of};
 
     /// A pair whose headers were put.
     pub fn open<W: Wire>(
@@ -43,20 +42,15 @@ impl Pair {
         down: &mut W,
     ) -> Result<Pair, Failure>
         requires { length name ≤ 32 }
-        ensures up_counts { W.faults up.old ≤ W.faults up.new }
-        ensures down_counts { W.faults down.old ≤ W.faults down.new }
-        ensures up_honest { W.honest up.old ↔ W.honest up.new }
-        ensures down_honest { W.honest down.old ↔ W.honest down.new }
-        ensures fault { IsErrOf result failure.WireFault
-            → Rose (W.faults up.old) (W.faults up.new) ⊎ Rose (W.faults down.old) (W.faults down.new) }
-        ensures steady { ¬ IsErrOf result failure.WireFault
-            → (W.faults up.new ≡ W.faults up.old) × (W.faults down.new ≡ W.faults down.old) }
-        ensures schema { IfOk result (λ pair. (pair.name ≡ name) × (pair.version ≡ version) × (pair.client.label ≡ None)) }
+        ensures wires { BothGoOn W.faults W.honest up.old up.new down.old down.new
+            (IsErrOf result failure.WireFault) }
+        ensures schema { IfOk result (λ pair. (pair.name ≡ name) × (pair.version ≡ version)
+            × (pair.client.label ≡ None)) }
 
         // Over fresh wires that tell their bytes.
-        ensures told { AreFresh (W.sent up.old) (W.given up.old) (W.sent down.old) (W.given down.old)
-            → IfOk result (λ pair. Tells pair (W.sent up.new) (W.given up.new) (W.sent down.new) (W.given down.new)
-            × Stands pair (first_world name version) (W.sent up.new) (W.given up.new) (W.sent down.new) (W.given down.new)) }
+        ensures told { FreshOver W.sent W.given up.old down.old
+            → IfOk result (λ pair. TellsOver W.sent W.given pair up.new down.new
+            × StandsOver W.sent W.given pair (first_world name version) up.new down.new) }
     {
         let client = Client::open(alloc, up)?;
         let server = Server::open(alloc, name.as_slice(), version, down)?;
@@ -78,23 +72,16 @@ impl Pair {
     ) -> Result<Option<Refusal>, Failure>
         requires event { IsEvent event.now }
         requires once { MayStep self.old.client.label event.now }
-        ensures up_counts { W.faults up.old ≤ W.faults up.new }
-        ensures down_counts { W.faults down.old ≤ W.faults down.new }
-        ensures up_honest { W.honest up.old ↔ W.honest up.new }
-        ensures down_honest { W.honest down.old ↔ W.honest down.new }
-        ensures fault { IsErrOf result failure.WireFault
-            → Rose (W.faults up.old) (W.faults up.new) ⊎ Rose (W.faults down.old) (W.faults down.new) }
-        ensures steady { ¬ IsErrOf result failure.WireFault
-            → (W.faults up.new ≡ W.faults up.old) × (W.faults down.new ≡ W.faults down.old) }
+        ensures wires { BothGoOn W.faults W.honest up.old up.new down.old down.new
+            (IsErrOf result failure.WireFault) }
         ensures schema { (self.new.name ≡ self.old.name) × (self.new.version ≡ self.old.version) }
         ensures label { OnOk result (LabelAfter self.old.client.label event.now self.new.client.label) }
 
-        ensures told { Tells self.old (W.sent up.old) (W.given up.old) (W.sent down.old) (W.given down.old)
-            → OnOk result (Tells self.new (W.sent up.new) (W.given up.new) (W.sent down.new) (W.given down.new)) }
+        ensures told { TellsOver W.sent W.given self.old up.old down.old
+            → OnOk result (TellsOver W.sent W.given self.new up.new down.new) }
         ensures world { (w : World) → W.honest up.old → W.honest down.old
-            → Stands self.old w (W.sent up.old) (W.given up.old) (W.sent down.old) (W.given down.old)
-            → IfOk result (λ answer. (answer ≡ refusal w event.now)
-            × Stands self.new (step w event.now) (W.sent up.new) (W.given up.new) (W.sent down.new) (W.given down.new)) }
+            → StandsOver W.sent W.given self.old w up.old down.old
+            → IfOk result (StepsTo W.sent W.given self.new w event.now up.new down.new) }
     {
         match event {
             Event::Ask {
@@ -126,16 +113,16 @@ impl Pair {
     ) -> Result<Option<Refusal>, Failure>
         requires once { self.old.client.label ≡ None }
         requires text { IsText text.now }
-        ensures counts { W.faults up.old ≤ W.faults up.new }
-        ensures honest { W.honest up.old ↔ W.honest up.new }
-        ensures fault { IsErrOf result failure.WireFault → Rose (W.faults up.old) (W.faults up.new) }
-        ensures steady { ¬ IsErrOf result failure.WireFault → W.faults up.new ≡ W.faults up.old }
+        ensures wire { GoesOn W.faults W.honest up.old up.new (IsErrOf result failure.WireFault) }
         ensures schema { (self.new.name ≡ self.old.name) × (self.new.version ≡ self.old.version) }
-        ensures label { OnOk result ((self.new.client.label ≡ None) ⊎ (self.new.client.label ≡ Some label.now)) }
-        ensures told { (sent given : Option (List ℕ)) → Tells self.old (W.sent up.old) (W.given up.old) sent given
-            → OnOk result (Tells self.new (W.sent up.new) (W.given up.new) sent given) }
-        ensures world { (w : World) (sent given : Option (List ℕ)) → W.honest up.old → Stands self.old w (W.sent up.old) (W.given up.old) sent given
-            → IfOk result (λ answer. (answer ≡ refusal w (event.Ask label.now name.now version text.now)) × Stands self.new (step w (event.Ask label.now name.now version text.now)) (W.sent up.new) (W.given up.new) sent given) }
+        ensures label { OnOk result ((self.new.client.label ≡ None)
+            ⊎ (self.new.client.label ≡ Some label.now)) }
+        ensures told { (other : W) → TellsOver W.sent W.given self.old up.old other
+            → OnOk result (TellsOver W.sent W.given self.new up.new other) }
+        ensures world { (w : World) (other : W) → W.honest up.old
+            → StandsOver W.sent W.given self.old w up.old other
+            → IfOk result (StepsTo W.sent W.given self.new w
+            (event.Ask label.now name.now version text.now) up.new other) }
     {
         if !self.knows(name, version) {
             return Ok(Some(Refusal::NoSuchRpc));
@@ -160,16 +147,15 @@ impl Pair {
         down: &mut W,
     ) -> Result<Option<Refusal>, Failure>
         requires { IsText text.now }
-        ensures counts { W.faults down.old ≤ W.faults down.new }
-        ensures honest { W.honest down.old ↔ W.honest down.new }
-        ensures fault { IsErrOf result failure.WireFault → Rose (W.faults down.old) (W.faults down.new) }
-        ensures steady { ¬ IsErrOf result failure.WireFault → W.faults down.new ≡ W.faults down.old }
+        ensures wire { GoesOn W.faults W.honest down.old down.new (IsErrOf result failure.WireFault) }
         ensures schema { (self.new.name ≡ self.old.name) × (self.new.version ≡ self.old.version) }
         ensures label { self.new.client.label ≡ self.old.client.label }
-        ensures told { (sent given : Option (List ℕ)) → Tells self.old sent given (W.sent down.old) (W.given down.old)
-            → OnOk result (Tells self.new sent given (W.sent down.new) (W.given down.new)) }
-        ensures world { (w : World) (sent given : Option (List ℕ)) → W.honest down.old → Stands self.old w sent given (W.sent down.old) (W.given down.old)
-            → IfOk result (λ answer. (answer ≡ refusal w (event.Reply label.now text.now)) × Stands self.new (step w (event.Reply label.now text.now)) sent given (W.sent down.new) (W.given down.new)) }
+        ensures told { (other : W) → TellsOver W.sent W.given self.old other down.old
+            → OnOk result (TellsOver W.sent W.given self.new other down.new) }
+        ensures world { (w : World) (other : W) → W.honest down.old
+            → StandsOver W.sent W.given self.old w other down.old
+            → IfOk result (StepsTo W.sent W.given self.new w (event.Reply label.now text.now)
+            other down.new) }
     {
         if !self.has_label(label) {
             return Ok(Some(Refusal::NoSuchLabel));
@@ -192,16 +178,15 @@ impl Pair {
         up: &mut W,
     ) -> Result<(), Failure>
         requires { 1 ≤ by }
-        ensures counts { W.faults up.old ≤ W.faults up.new }
-        ensures honest { W.honest up.old ↔ W.honest up.new }
-        ensures fault { IsErrOf result failure.WireFault → Rose (W.faults up.old) (W.faults up.new) }
-        ensures steady { ¬ IsErrOf result failure.WireFault → W.faults up.new ≡ W.faults up.old }
+        ensures wire { GoesOn W.faults W.honest up.old up.new (IsErrOf result failure.WireFault) }
         ensures schema { (self.new.name ≡ self.old.name) × (self.new.version ≡ self.old.version) }
         ensures label { self.new.client.label ≡ self.old.client.label }
-        ensures told { (sent given : Option (List ℕ)) → Tells self.old (W.sent up.old) (W.given up.old) sent given
-            → OnOk result (Tells self.new (W.sent up.new) (W.given up.new) sent given) }
-        ensures world { (w : World) (sent given : Option (List ℕ)) → W.honest up.old → Stands self.old w (W.sent up.old) (W.given up.old) sent given
-            → OnOk result (Stands self.new (effect w (event.Up count by)) (W.sent up.new) (W.given up.new) sent given) }
+        ensures told { (other : W) → TellsOver W.sent W.given self.old up.old other
+            → OnOk result (TellsOver W.sent W.given self.new up.new other) }
+        ensures world { (w : World) (other : W) → W.honest up.old
+            → StandsOver W.sent W.given self.old w up.old other
+            → OnOk result (StandsOver W.sent W.given self.new (effect w (event.Up count by))
+            up.new other) }
     {
         let in_flight = self
             .client
@@ -225,16 +210,15 @@ impl Pair {
         down: &mut W,
     ) -> Result<(), Failure>
         requires { 1 ≤ by }
-        ensures counts { W.faults down.old ≤ W.faults down.new }
-        ensures honest { W.honest down.old ↔ W.honest down.new }
-        ensures fault { IsErrOf result failure.WireFault → Rose (W.faults down.old) (W.faults down.new) }
-        ensures steady { ¬ IsErrOf result failure.WireFault → W.faults down.new ≡ W.faults down.old }
+        ensures wire { GoesOn W.faults W.honest down.old down.new (IsErrOf result failure.WireFault) }
         ensures schema { (self.new.name ≡ self.old.name) × (self.new.version ≡ self.old.version) }
         ensures label { self.new.client.label ≡ self.old.client.label }
-        ensures told { (sent given : Option (List ℕ)) → Tells self.old sent given (W.sent down.old) (W.given down.old)
-            → OnOk result (Tells self.new sent given (W.sent down.new) (W.given down.new)) }
-        ensures world { (w : World) (sent given : Option (List ℕ)) → W.honest down.old → Stands self.old w sent given (W.sent down.old) (W.given down.old)
-            → OnOk result (Stands self.new (effect w (event.Down count by)) sent given (W.sent down.new) (W.given down.new)) }
+        ensures told { (other : W) → TellsOver W.sent W.given self.old other down.old
+            → OnOk result (TellsOver W.sent W.given self.new other down.new) }
+        ensures world { (w : World) (other : W) → W.honest down.old
+            → StandsOver W.sent W.given self.old w other down.old
+            → OnOk result (StandsOver W.sent W.given self.new (effect w (event.Down count by))
+            other down.new) }
     {
         let in_flight = self
             .server

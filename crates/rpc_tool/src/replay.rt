@@ -1,9 +1,9 @@
 // The replay of a schedule over two wires.
-ghost use Rattle.std.specs.Prelude.{◌≡◌, ◌⊎◌, IfOk, IsErrOf};
-ghost use Rattle.bp_base.specs.Moves.{Rose};
+ghost use Rattle.std.specs.Prelude.{IfOk, IsErrOf};
+ghost use Rattle.bp_base.specs.Faults.{BothGoOn};
 ghost use Rattle.rpc_world.specs.Input.{IsWellFormed};
 ghost use Rattle.rpc_tool.specs.declared.failure.Failure.TheVariants as failure;
-ghost use Rattle.rpc_tool.specs.Replayed.{AreFresh, IsReplayed, IsReported};
+ghost use Rattle.rpc_tool.specs.Replayed.{FreshOver, ReplayedOver, ReportedOver};
 
 use crate::failure::Failure;
 use crate::input::FIRST_EVENT_LINE;
@@ -21,19 +21,17 @@ pub fn replay<W: Wire>(
     down: &mut W,
 ) -> Result<Vec<u8>, Failure>
     requires { IsWellFormed schedule.now }
-    ensures fault { IsErrOf result failure.WireFault
-        → Rose (W.faults up.old) (W.faults up.new) ⊎ Rose (W.faults down.old) (W.faults down.new) }
-    ensures steady { ¬ IsErrOf result failure.WireFault
-        → (W.faults up.new ≡ W.faults up.old) × (W.faults down.new ≡ W.faults down.old) }
+    ensures wires { BothGoOn W.faults W.honest up.old up.new down.old down.new
+        (IsErrOf result failure.WireFault) }
 
     // Over fresh wires that tell their bytes, honest or not.
-    ensures reported { AreFresh (W.sent up.old) (W.given up.old) (W.sent down.old) (W.given down.old)
-        → IfOk result (λ report. IsReported schedule.now report.items (W.sent up.new) (W.given up.new) (W.sent down.new) (W.given down.new)) }
+    ensures reported { FreshOver W.sent W.given up.old down.old → IfOk result
+        (λ report. ReportedOver W.sent W.given schedule.now up.new down.new report.items) }
 
     // Over fresh honest wires that tell their bytes.
     ensures replayed { W.honest up.old → W.honest down.old
-        → AreFresh (W.sent up.old) (W.given up.old) (W.sent down.old) (W.given down.old)
-        → IfOk result (λ report. IsReplayed schedule.now report.items (W.sent up.new) (W.given up.new) (W.sent down.new) (W.given down.new)) }
+        → FreshOver W.sent W.given up.old down.old → IfOk result
+        (λ report. ReplayedOver W.sent W.given schedule.now up.new down.new report.items) }
 {
     let mut pair = Pair::open(
         alloc,

@@ -1,8 +1,8 @@
 // The top call of the program `rpc`.
 ghost use Rattle.std.specs.declared.alloc.Global.{Global};
 ghost use Rattle.std.specs.Prelude.{String, Some, None, ◌≡◌, ◌≢◌, ◌≤◌, ◌<◌, ◌^◌, ◌⊎◌, ◌↔◌, true, ℕ, List, length, IsTrue, IfSome};
-ghost use Rattle.std.specs.Io.KnownBytes.{Keeps, IsAtEnd};
-ghost use Rattle.bp_base.specs.Moves.{Rose};
+ghost use Rattle.std.specs.Io.KnownBytes.{IsAtEnd};
+ghost use Rattle.bp_base.specs.Faults.{Counts, BothGoOn};
 ghost use Rattle.bp_base.specs.Whole.{Came};
 ghost use Rattle.rpc_world.specs.declared.schedule.Schedule.{Schedule};
 ghost use Rattle.rpc_world.specs.Input.{IsInput, IsBadLine, IsWellFormed};
@@ -38,19 +38,14 @@ pub fn run<I: Source, O: Sink, W: Wire>(
     up: &mut W,
     down: &mut W,
 ) -> u8
-    // A fault is answered only where the count of the object that failed rose in this call.
-    ensures read { result ≡ 3 → Rose (I.faults input.old) (I.faults input.new) }
-    ensures write { result ≡ 4 → Rose (O.faults out.old) (O.faults out.new) }
-    ensures wire { result ≡ 5 → Rose (W.faults up.old) (W.faults up.new) ⊎ Rose (W.faults down.old) (W.faults down.new) }
-
-    // And no fault is passed over: at every other status the count of the object stands as it stood.
-    ensures read_steady { result ≢ 3 → I.faults input.new ≡ I.faults input.old }
-    ensures write_steady { result ≢ 4 → O.faults out.new ≡ O.faults out.old }
-    ensures wire_steady { result ≢ 5 → (W.faults up.new ≡ W.faults up.old) × (W.faults down.new ≡ W.faults down.old) }
+    // A fault is answered exactly where the count of the object that failed rose in this call.
+    ensures read { Counts I.faults input.old input.new (result ≡ 3) }
+    ensures write { Counts O.faults out.old out.new (result ≡ 4) }
+    ensures wires { BothGoOn W.faults W.honest up.old up.new down.old down.new (result ≡ 5) }
 
     // What the status means, of the bytes of input that came: all of it, where it was read to its end.
     ensures means { (status : Status) × (bytes : List ℕ) × (result ≡ code_of status)
-        × Came (I.given input.old) (I.given input.new) (I.left input.old) (I.left input.new) bytes
+        × Came I.given I.left input.old input.new bytes
         × (status ≡ outcome.TooLong ↔ 2 ^ 26 < length bytes)
         × (IsReadWhole status → IfSome (I.left input.old) (λ text. bytes ≡ text))
         × Means words.now bytes
@@ -90,14 +85,12 @@ fn replay_input<I: Source, O: Sink, W: Wire>(
     up: &mut W,
     down: &mut W,
 ) -> Status
-    ensures read { result ≡ outcome.ReadFault → Rose (I.faults input.old) (I.faults input.new) }
-    ensures write { result ≡ outcome.WriteFault → Rose (O.faults out.old) (O.faults out.new) }
-    ensures wire { result ≡ outcome.WireFault → Rose (W.faults up.old) (W.faults up.new) ⊎ Rose (W.faults down.old) (W.faults down.new) }
-    ensures read_steady { result ≢ outcome.ReadFault → I.faults input.new ≡ I.faults input.old }
-    ensures write_steady { result ≢ outcome.WriteFault → O.faults out.new ≡ O.faults out.old }
-    ensures wire_steady { result ≢ outcome.WireFault → (W.faults up.new ≡ W.faults up.old) × (W.faults down.new ≡ W.faults down.old) }
+    ensures read { Counts I.faults input.old input.new (result ≡ outcome.ReadFault) }
+    ensures write { Counts O.faults out.old out.new (result ≡ outcome.WriteFault) }
+    ensures wires { BothGoOn W.faults W.honest up.old up.new down.old down.new
+        (result ≡ outcome.WireFault) }
     ensures means { (bytes : List ℕ)
-        × Came (I.given input.old) (I.given input.new) (I.left input.old) (I.left input.new) bytes
+        × Came I.given I.left input.old input.new bytes
         × (result ≡ outcome.TooLong ↔ 2 ^ 26 < length bytes)
         × (IsReadWhole result → IfSome (I.left input.old) (λ text. bytes ≡ text))
         × ((words : List (String Global)) → IsReplay words → Means words bytes
@@ -121,10 +114,9 @@ fn replay_text<O: Sink, W: Wire>(
     up: &mut W,
     down: &mut W,
 ) -> Status
-    ensures write { result ≡ outcome.WriteFault → Rose (O.faults out.old) (O.faults out.new) }
-    ensures wire { result ≡ outcome.WireFault → Rose (W.faults up.old) (W.faults up.new) ⊎ Rose (W.faults down.old) (W.faults down.new) }
-    ensures write_steady { result ≢ outcome.WriteFault → O.faults out.new ≡ O.faults out.old }
-    ensures wire_steady { result ≢ outcome.WireFault → (W.faults up.new ≡ W.faults up.old) × (W.faults down.new ≡ W.faults down.old) }
+    ensures write { Counts O.faults out.old out.new (result ≡ outcome.WriteFault) }
+    ensures wires { BothGoOn W.faults W.honest up.old up.new down.old down.new
+        (result ≡ outcome.WireFault) }
     ensures through { IsReadThrough result }
     ensures means { (words : List (String Global)) → IsReplay words → Means words text.now
         (IsReport (W.honest up.old × W.honest down.old) (AreFresh (W.sent up.old) (W.given up.old) (W.sent down.old) (W.given down.old))
@@ -144,10 +136,9 @@ fn replay_text<O: Sink, W: Wire>(
 
 /// Writes which line of the input is refused.
 fn refuse<O: Sink>(alloc: Global, number: u64, out: &mut O) -> Status
-    ensures write { result ≡ outcome.WriteFault → Rose (O.faults out.old) (O.faults out.new) }
-    ensures write_steady { result ≢ outcome.WriteFault → O.faults out.new ≡ O.faults out.old }
+    ensures write { Counts O.faults out.old out.new (result ≡ outcome.WriteFault) }
     ensures answered { IsAnswered outcome.Refused (refused_line number) (O.put out.old) (O.put out.new) result
-        ⊎ ((result ≡ outcome.OutOfMemory) × Keeps (O.put out.old) (O.put out.new)) }
+        ⊎ ((result ≡ outcome.OutOfMemory) × (O.put out.new ≡ O.put out.old)) }
 {
     let mut line = Vec::new(alloc);
     match push_at_line(alloc, &mut line, number, NOT_IN_FORM) {
@@ -158,9 +149,8 @@ fn refuse<O: Sink>(alloc: Global, number: u64, out: &mut O) -> Status
 
 /// Writes an answer and flushes it. Where that fails the status says so instead.
 fn answer<O: Sink>(out: &mut O, text: &[u8], status: Status) -> Status
-    ensures counts { O.faults out.old ≤ O.faults out.new }
-    ensures write { result ≡ outcome.WriteFault → (status ≡ outcome.WriteFault) ⊎ Rose (O.faults out.old) (O.faults out.new) }
-    ensures write_steady { result ≢ outcome.WriteFault → O.faults out.new ≡ O.faults out.old }
+    requires { status ≢ outcome.WriteFault }
+    ensures write { Counts O.faults out.old out.new (result ≡ outcome.WriteFault) }
     ensures answered { IsAnswered status text.now (O.put out.old) (O.put out.new) result }
 {
     let Ok(()) = write_all(out, text) else {

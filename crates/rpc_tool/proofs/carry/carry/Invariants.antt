@@ -1,20 +1,20 @@
-use Rattle.std.proofs.Common.{Some, ◌≡◌, ◌+◌, ◌-◌, ◌≤◌, ◌↔◌, ℕ, List, length, take, min}
-use Rattle.std.specs.Io.KnownBytes.{Keeps}
+use Rattle.std.proofs.Common.{◌≡◌, ◌-◌, ◌≤◌, ◌↔◌, ℕ, List, length, min}
 use Rattle.rpc_world.specs.Stream.{IsFront}
+use Rattle.rpc_tool.specs.Carried.{HoldsGiven, HasMore, TookOn}
 use Rattle.rpc_tool.proofs.carry.carry.Given as goal
 
 abbrev pub invariant-pieces : goal.invariant-pieces
 invariant-pieces g l = record {
   left : l.left ≤ l.count;
   room : length l.buffer.items ≡ min l.by l.count;
-  sent : Keeps (g.W.Wire.sent l.fn.wire) (g.W.Wire.sent l.wire);
+  sent : g.W.Wire.sent l.wire ≡ g.W.Wire.sent l.fn.wire;
   honest : g.W.Wire.honest l.fn.wire ↔ g.W.Wire.honest l.wire;
   steady : g.W.Wire.faults l.wire ≡ g.W.Wire.faults l.fn.wire;
   awaited : l.inbox.awaited ≡ l.fn.inbox.awaited;
-  given : g.W.Wire.given l.fn.wire ≡ Some l.fn.inbox.bytes.items → g.W.Wire.given l.wire ≡ Some l.inbox.bytes.items;
-  moved : (stream : List ℕ) → g.W.Wire.honest l.fn.wire → g.W.Wire.sent l.fn.wire ≡ Some stream → g.W.Wire.given l.fn.wire ≡ Some l.fn.inbox.bytes.items
-      → IsFront l.fn.inbox.awaited stream → length l.fn.inbox.bytes.items + l.count ≤ length stream
-      → l.inbox.bytes.items ≡ take (length l.fn.inbox.bytes.items + (l.count - l.left)) stream;
+  given : HoldsGiven g.W.Wire.given l.fn.wire l.fn.inbox → HoldsGiven g.W.Wire.given l.wire l.inbox;
+  moved : (stream : List ℕ)
+      → HasMore g.W.Wire.honest g.W.Wire.sent g.W.Wire.given l.fn.wire l.fn.inbox l.count stream
+      → IsFront l.fn.inbox.awaited stream → TookOn l.fn.inbox l.inbox (l.count - l.left) stream;
 }
 
 abbrev pub decreases-pieces : goal.decreases-pieces

@@ -1,5 +1,6 @@
 use Rattle.std.proofs.Common.{arith, ◌≡◌, ◌∙◌, length, take, ap, sym, subst}
 use Rattle.std.proofs.lemmas.List.{take_all}
+use Rattle.bp_base.proofs.Counting.{both_after, both_steady}
 use Rattle.rpc_world.specs.World.{first_world, after}
 use Rattle.rpc_tool.specs.Replayed.{IsAsked, AreAnswers}
 use Rattle.rpc_tool.proofs.Shows.{reported, replayed}
@@ -17,9 +18,8 @@ events-preserved g c =
     let first = first_world c.args.schedule.now.name c.args.schedule.now.version in
     record {
       within = omega arith;
-      steady = (let s = c.in_ok-answer.ensures.steady (λ is. cc) in (s.0 ∙ c.events.invariant.steady.0, s.1 ∙ c.events.invariant.steady.1));
-      up_honest = (λ h. c.in_ok-answer.ensures.up_honest.0 (c.events.invariant.up_honest.0 h), λ h. c.events.invariant.up_honest.1 (c.in_ok-answer.ensures.up_honest.1 h));
-      down_honest = (λ h. c.in_ok-answer.ensures.down_honest.0 (c.events.invariant.down_honest.0 h), λ h. c.events.invariant.down_honest.1 (c.in_ok-answer.ensures.down_honest.1 h));
+      wires = both_steady _ _ _ _ _ _ _ (λ is. cc)
+          (both_after _ _ _ _ _ _ _ _ _ c.events.invariant.wires c.in_ok-answer.ensures.wires);
       name = c.in_ok-answer.ensures.schema.0 ∙ c.events.invariant.name;
       version = c.in_ok-answer.ensures.schema.1 ∙ c.events.invariant.version;
       asked = subst (λ events. IsAsked c.step.new.self.client.label events) (sym more)
@@ -28,7 +28,7 @@ events-preserved g c =
       told = λ fresh. c.in_ok-answer.ensures.told (c.events.invariant.told fresh);
       world = λ up_honest down_honest fresh.
           let was = c.events.invariant.world up_honest down_honest fresh in
-          let stepped = c.in_ok-answer.ensures.world (after first before) (c.events.invariant.up_honest.0 up_honest) (c.events.invariant.down_honest.0 down_honest) was.0 in
+          let stepped = c.in_ok-answer.ensures.world (after first before) (c.events.invariant.wires.up_honest.0 up_honest) (c.events.invariant.wires.down_honest.0 down_honest) was.0 in
           world-next _ first _ before c.index-events-index.result c.events.index _ _ _ _ _ _ _ more
           (length-before c.as_slice-events.result.now c.events.index c.events.invariant.within) was.1 stepped c.in_ok-push_answer.ensures;
     }

@@ -1,6 +1,7 @@
 use Rattle.std.proofs.Common.{arith}
 use Rattle.std.specs.Prelude.{[]}
-use Rattle.rpc_tool.proofs.Answering.{usage-means, usage-short, usage-code, nothing-came}
+use Rattle.bp_base.proofs.Runs.{Came-nil}
+use Rattle.rpc_tool.proofs.Answering.{usage-means, usage-short, usage-code}
 use Rattle.rpc_tool.proofs.top.run.Goals as goal
 
 pub returns-then-not-is_replay-clause-means : goal.returns-then-not-is_replay-clause-means
@@ -9,7 +10,7 @@ returns-then-not-is_replay-clause-means g c =
       c.answer.result,
       [],
       c.code.ensures,
-      nothing-came _ _,
+      Came-nil _ _ _,
       (λ long. absurd (usage-short _ _ _ _ answered long), λ long. absurd (omega (arith, long))),
       λ whole. absurd (usage-code _ _ _ _ answered whole),
       usage-means _ _ _ _ c.answer.result (λ is_replay. let test = c.is_replay.ensures.1 is_replay in cc) answered,

@@ -1,8 +1,9 @@
-use Rattle.bp_base.proofs.Giving.{bytes_before-start, bytes_from-start}
+use Rattle.std.proofs.Common.{Some, ap}
+use Rattle.bp_base.proofs.Giving.{bytes_before_start, bytes_from_start}
 use Rattle.bp_base.proofs.pieces.Pieces.new.Goals as goal
 
 pub returns-clause-given : goal.returns-clause-given
-returns-clause-given c = bytes_before-start c.args.pieces.items
+returns-clause-given c = ap Some (bytes_before_start c.args.pieces.items)
 
 pub returns-clause-left : goal.returns-clause-left
-returns-clause-left c = bytes_from-start c.args.pieces.items
+returns-clause-left c = ap Some (bytes_from_start c.args.pieces.items)

@@ -6,22 +6,22 @@ use Rattle.rpc_tool.proofs.Standing.{refused, went, unknown, early, askable, cli
 use Rattle.rpc_tool.proofs.pair.Pair.ask.Goals as goal
 
 pub returns-then-not-knows-clause-world : goal.returns-then-not-knows-clause-world
-returns-then-not-knows-clause-world g c = λ w sent given honest stands.
+returns-then-not-knows-clause-world g c = λ w other honest stands.
     refused _ w _ _ _ _ (Ask c.args.label.now c.args.name.now c.args.version c.args.text.now) NoSuchRpc
     (unknown _ w _ _ _ _ c.args.label.now c.args.name.now c.args.text.now c.args.version stands (sym c.knows.ensures ∙ c.if-not-knows.true)) stands
 
 pub returns-then-not-is_front-clause-world : goal.returns-then-not-is_front-clause-world
-returns-then-not-is_front-clause-world g c = λ w sent given honest stands.
+returns-then-not-is_front-clause-world g c = λ w other honest stands.
     let front = c.is_front.ensures.1 (client-front _ w _ _ _ _ stands) in cc
 
 pub returns-then-not-has_header-clause-world : goal.returns-then-not-has_header-clause-world
-returns-then-not-has_header-clause-world g c = λ w sent given honest stands.
+returns-then-not-has_header-clause-world g c = λ w other honest stands.
     refused _ w _ _ _ _ (Ask c.args.label.now c.args.name.now c.args.version c.args.text.now) NotOpen
     (early _ w _ _ _ _ c.args.label.now c.args.name.now c.args.text.now c.args.version stands (sym c.knows.ensures ∙ c.if-not-knows.false)
     (sym c.has_header.ensures ∙ c.if-not-has_header.true)) stands
 
 pub returns-clause-world : goal.returns-clause-world
-returns-clause-world g c = λ w sent given honest stands.
+returns-clause-world g c = λ w other honest stands.
     let lead : c.deref.result.now ≡ query_lead c.args.self.now.name c.args.self.now.version =
     c.deref.ensures.value ∙ (c.in_ok-lead.ensures.bytes ∙ ap (λ name. query_lead name c.args.self.now.version) c.as_slice.ensures) in
     went _ w _ _ _ _ (Ask c.args.label.now c.args.name.now c.args.version c.args.text.now)

@@ -4,10 +4,18 @@ use Rattle.rpc_tool.proofs.Standing.{moved-down, client-stream, down-fits}
 use Rattle.rpc_tool.proofs.pair.Pair.move_down.Goals as goal
 
 pub returns-clause-world : goal.returns-clause-world
-returns-clause-world g c = λ w sent given honest stands.
-    let count : c.moved.result ≡ moved_of c.args.count (c.args.self.now.server.put - length c.args.self.now.client.inbox.bytes.items) =
-    c.moved.ensures ∙ ap (moved_of c.args.count) (c.saturating_sub-in_flight.ensures ∙ ap (λ n. c.args.self.now.server.put - n) (c.len.ensures ∙ c.args.self.now.client.inbox.bytes.ok.0)) in
+returns-clause-world g c = λ w other honest stands.
+    let p = c.args.self.now in
+    let count : c.moved.result
+    ≡ moved_of c.args.count (p.server.put - length p.client.inbox.bytes.items) =
+    c.moved.ensures ∙ ap (moved_of c.args.count) (c.saturating_sub-in_flight.ensures
+    ∙ ap (λ n. p.server.put - n) (c.len.ensures ∙ p.client.inbox.bytes.ok.0)) in
     let fits = down-fits _ w _ _ _ _ c.args.count stands in
-    let came = c.in_ok-carry.ensures.moved (down_stream w) honest stands.down.told_sent stands.down.told_given (client-stream _ w _ _ _ _ stands) (rw count fits) in
-    moved-down _ _ w _ _ _ _ _ _ c.args.count c.args.by stands c.in_ok-carry.ensures.sent (c.in_ok-carry.ensures.given stands.down.told_given)
-    (rw count at came) refl refl refl refl refl
+    let came = c.in_ok-carry.ensures.moved (down_stream w) (record {
+      honest = honest;
+      told_sent = stands.down.told_sent;
+      told_given = stands.down.told_given;
+      within = rw count fits;
+    }) (client-stream _ w _ _ _ _ stands) in
+    moved-down _ _ w _ _ _ _ _ _ c.args.count c.args.by stands c.in_ok-carry.ensures.sent
+    (c.in_ok-carry.ensures.given stands.down.told_given) (rw count at came) refl refl refl refl refl
