@@ -1,7 +1,8 @@
 -- How the bytes before a place and those from it on change as the place moves on.
-use Rattle.std.proofs.Common.{◌≡◌, ℕ, zero, suc, ◌+◌, ◌<◌, ◌≤◌, List, [], ◌∷◌, ◌++◌, Vec, length, get_or, slice_get, Some, take, drop, refl, sym, ap, ◌∙◌, subst, arith, append_assoc, take-add, take-append-drop}
+use Rattle.std.proofs.Common.{◌≡◌, ℕ, zero, suc, ◌+◌, ◌<◌, ◌≤◌, List, [], ◌∷◌, ◌++◌, Vec, min, length, get_or, slice_get, Some, take, drop, refl, sym, ap, ◌∙◌, subst, arith, append_assoc, length-append, take-add, take-append-drop}
 use Rattle.std.proofs.lemmas.List.{append-nil, take_all, drop_all, drop-drop}
 use Rattle.std.specs.declared.alloc.Global.{Global}
+use Rattle.bp_base.specs.Faults.{last_count}
 use Rattle.bp_base.specs.Places.{Parts, joined, bytes_before, bytes_from}
 
 -- From the first place to the second only pieces that were given whole were passed, and the buffer
@@ -90,3 +91,10 @@ bytes_from_more (first ∷ pieces) zero at count piece is =
     (drop-drop count at first.items)
 bytes_from_more (first ∷ pieces) (suc whole) at count piece is =
     bytes_from_more pieces whole at count piece is
+
+-- how many bytes were given, once more were
+pub counted_more : (given count : ℕ) (before more now : List ℕ)
+    → given ≡ min (length before) last_count → now ≡ before ++ more → length more ≡ count
+    → min (given + count) last_count ≡ min (length now) last_count
+counted_more given count before more now is grown long =
+    let long_now = ap length grown ∙ length-append before more in omega arith

@@ -1,8 +1,9 @@
 // The bytes of a source in memory.
-ghost use Rattle.std.specs.Prelude.{◌≡◌, ◌≢◌, ◌≤◌, [], Some, length, drop};
+ghost use Rattle.std.specs.Prelude.{◌≡◌, ◌≢◌, ◌≤◌, [], Some, min, length, drop};
 ghost use Rattle.std.specs.Io.KnownBytes.{IsAtEnd};
+ghost use Rattle.bp_base.specs.Faults.{last_count};
 ghost use Rattle.bp_base.specs.Told.{Gains, Loses};
-ghost use Rattle.bp_base.specs.Places.{joined};
+ghost use Rattle.bp_base.specs.Places.{joined, bytes_before};
 
 use crate::ReadGot;
 use crate::front::copy_front;
@@ -14,6 +15,9 @@ pub struct Pieces {
     pub pieces: Vec<Vec<u8>>,
     pub whole: usize,
     pub at: usize,
+    /// How many bytes were given. It stays at the last value of a `u64`.
+    pub given: u64,
+    ghost counted: { given ≡ min (length (bytes_before pieces.items whole at)) last_count },
 }
 
 impl Pieces {
@@ -29,6 +33,7 @@ impl Pieces {
             pieces,
             whole: 0,
             at: 0,
+            given: 0,
         }
     }
 
@@ -51,6 +56,7 @@ impl Pieces {
             if self.at < piece.len() {
                 let count = copy_front(&piece[self.at..], into);
                 self.at += count;
+                self.given = self.given.saturating_add(count as u64);
                 return ReadGot::Bytes(count);
             }
             self.whole += 1;

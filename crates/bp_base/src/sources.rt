@@ -1,5 +1,6 @@
 // Sources in memory.
-ghost use Rattle.std.specs.Prelude.{◌≡◌, [], ℕ, false, Some};
+ghost use Rattle.std.specs.Prelude.{◌≡◌, [], ℕ, false, Some, IfSome, min, length};
+ghost use Rattle.bp_base.specs.Faults.{last_count};
 ghost use Rattle.bp_base.specs.Places.{joined};
 ghost use Rattle.bp_base.specs.Forms.{source_calls, pieces_given, pieces_left};
 
@@ -31,6 +32,14 @@ impl MemSource {
             ended: false,
             calls: Calls::new(fails),
         }
+    }
+
+    /// How many bytes were given. It stays at the last value of a `u64`.
+    pub fn given(&self) -> u64
+        ensures { IfSome (⟦<MemSource as Source>⟧.given self.now)
+            (λ bytes. result ≡ min (length bytes) last_count) }
+    {
+        self.pieces.given
     }
 
     /// Whether a read has answered `End`.
@@ -86,6 +95,14 @@ impl SteadySource {
             pieces: Pieces::new(pieces),
             ended: false,
         }
+    }
+
+    /// How many bytes were given. It stays at the last value of a `u64`.
+    pub fn given(&self) -> u64
+        ensures { IfSome (⟦<SteadySource as Source>⟧.given self.now)
+            (λ bytes. result ≡ min (length bytes) last_count) }
+    {
+        self.pieces.given
     }
 
     /// Whether a read has answered `End`.

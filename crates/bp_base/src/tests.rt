@@ -39,9 +39,11 @@ fn a_source_gives_its_pieces_in_turn_and_skips_empty_ones(rt: HostRuntime) -> Re
     );
     assert_eq!(rt; into, *b"ed..");
     assert!(rt; !source.is_ended());
+    assert_eq!(rt; source.given(), 5);
     assert_eq!(rt; source.read(&mut into, Patience::Poll), ReadGot::End);
     assert_eq!(rt; into, *b"ed..");
     assert!(rt; source.is_ended());
+    assert_eq!(rt; source.given(), 5);
     Ok(())
 }
 
@@ -153,6 +155,7 @@ fn a_source_is_read_to_its_end(rt: HostRuntime) -> Result<(), Fail> {
     let all = read_all(alloc, &mut source, 5)?;
     assert_eq!(rt; all.as_slice(), b"abcde".as_slice());
     assert!(rt; source.is_ended());
+    assert_eq!(rt; source.given(), 5);
     let mut none = SteadySource::new(alloc, Vec::new(alloc));
     assert_eq!(rt; read_all(alloc, &mut &mut none, 0)?.len(), 0);
     Ok(())

@@ -1,8 +1,44 @@
-use Rattle.std.proofs.Common.{arith, Some, ◌≡◌, ◌+◌, ◌≤◌, ◌++◌, length, take, drop, sym, ap, ◌∙◌, add-one}
+use Rattle.std.proofs.Common.{arith, Some, ◌≡◌, ◌+◌, ◌≤◌, ◌++◌, length, take, drop, min, sym, ap, ◌∙◌, add-one, length-take, length-drop}
 use Rattle.bp_base.proofs.Copying.{front_copied}
-use Rattle.bp_base.proofs.Giving.{slice_get_index, bytes_before_next, bytes_from_next, bytes_before_more, bytes_from_more, bytes_from_end}
+use Rattle.bp_base.proofs.Giving.{slice_get_index, bytes_before_next, bytes_from_next, bytes_before_more, bytes_from_more, bytes_from_end, counted_more}
+use Rattle.bp_base.specs.Faults.{last_count}
 use Rattle.bp_base.specs.Places.{bytes_before, bytes_from}
 use Rattle.bp_base.proofs.pieces.Pieces.give.Goals as goal
+
+pub invariant_of-self : goal.invariant_of-self
+invariant_of-self c =
+    let p = c.pieces.self in
+    let piece = c.index-piece.result.now in
+    let count = c.copy_front-count.result in
+    let more = take count (drop p.at piece.items) in
+    let is = slice_get_index p.pieces.items p.whole piece
+    (omega (arith, c.pieces-test.true, c.len.ensures, p.pieces.ok.0)) c.index-piece.ensures in
+    let grown = bytes_before_more p.pieces.items p.whole p.at count piece is in
+    let long : length more ≡ count =
+    omega (
+      arith,
+      length-take count (drop p.at piece.items),
+      length-drop p.at piece.items,
+      c.copy_front-count.ensures.count,
+      ap length c.deref.ensures.value,
+    ) in
+    record {
+      counted = c.saturating_add-self.ensures
+          ∙ counted_more p.given count (bytes_before p.pieces.items p.whole p.at) more _
+          p.counted grown long;
+    }
+
+pub invariant_of-self-in-pieces : goal.invariant_of-self-in-pieces
+invariant_of-self-in-pieces c =
+    let p = c.pieces.self in
+    let piece = c.index-piece.result.now in
+    let is = slice_get_index p.pieces.items p.whole piece
+    (omega (arith, c.pieces-test.true, c.len.ensures, p.pieces.ok.0)) c.index-piece.ensures in
+    let past : length piece.items ≤ p.at =
+    omega (arith, c.if-self-len.false, c.len-in-pieces.ensures, piece.ok.0) in
+    let same = ap (λ n. bytes_before p.pieces.items n 0) (add-one p.whole)
+    ∙ bytes_before_next p.pieces.items p.whole p.at piece is past in
+    record { counted = p.counted ∙ ap (λ l. min (length l) last_count) (sym same) }
 
 pub returns-then-self-len-clause-given : goal.returns-then-self-len-clause-given
 returns-then-self-len-clause-given c =
