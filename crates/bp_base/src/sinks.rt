@@ -48,11 +48,33 @@ impl MemSink {
 }
 
 impl Sink for MemSink {
+    ghost use Rattle.std.specs.Prelude.{◌↔◌, ◌⊎◌};
+    ghost use Rattle.bp_base.specs.Faults.{Counts};
+    ghost use Rattle.bp_base.specs.Told.{Gains};
+    ghost use Rattle.bp_base.specs.Moves.{write_count, WriteFits};
+    ghost use Rattle.bp_base.specs.Forms.{sink_calls, room_of, IsListed, after_call, FailsAsListed};
+
     ghost faults = { λ s. s.calls.faults };
 
     ghost put = { λ s. Some (take s.len s.buffer.items) };
 
-    fn write(&mut self, piece: &[u8]) -> Wrote {
+    /// Takes as much of the piece as there is room for.
+    fn write(&mut self, piece: &[u8]) -> Wrote
+        requires { 1 ≤ length piece.now }
+        ensures fits { WriteFits result (length piece.now) }
+        ensures taken { Gains ⟦<MemSink as Sink>⟧.put self.old self.new
+            (take (write_count result) piece.now) }
+        ensures faults { Counts ⟦<MemSink as Sink>⟧.faults self.old self.new
+            (result ≡ Wrote.Failed) }
+
+        // A call fails exactly where its number is listed or no room is left.
+        ensures exactly { (result ≡ Wrote.Failed)
+            ↔ (IsListed (sink_calls self.old) ⊎ (room_of self.old ≡ 0)) }
+        ensures calls { sink_calls self.new ≡ after_call (sink_calls self.old) }
+        ensures count { ¬ (result ≡ Wrote.Failed)
+            → write_count result ≡ min (length piece.now) (room_of self.old) }
+        ensures room { room_of self.old ≡ write_count result + room_of self.new }
+    {
         if self.calls.next_fails() {
             return Wrote::Failed;
         }
@@ -65,7 +87,13 @@ impl Sink for MemSink {
         Wrote::Bytes(count)
     }
 
-    fn finish(&mut self) -> Finished {
+    fn finish(&mut self) -> Finished
+        ensures kept { ⟦<MemSink as Sink>⟧.put self.new ≡ ⟦<MemSink as Sink>⟧.put self.old }
+        ensures faults { Counts ⟦<MemSink as Sink>⟧.faults self.old self.new
+            (result ≡ Finished.Failed) }
+        ensures listed { FailsAsListed sink_calls self.old self.new (result ≡ Finished.Failed) }
+        ensures room { room_of self.new ≡ room_of self.old }
+    {
         if self.calls.next_fails() {
             Finished::Failed
         } else {
@@ -105,7 +133,10 @@ impl Sink for SteadySink {
 
     ghost put = { λ _. None };
 
-    fn write(&mut self, piece: &[u8]) -> Wrote {
+    fn write(&mut self, piece: &[u8]) -> Wrote
+        requires { 1 ≤ length piece.now }
+        ensures whole { result ≡ Wrote.Bytes (length piece.now) }
+    {
         Wrote::Bytes(piece.len())
     }
 

@@ -1,8 +1,11 @@
 // Sources in memory.
-ghost use Rattle.std.specs.Prelude.{◌≡◌, [], ℕ, false, Some, IfSome, min, length};
-ghost use Rattle.bp_base.specs.Faults.{last_count};
+ghost use Rattle.std.specs.Prelude.{◌≡◌, ◌≢◌, ◌≤◌, [], ℕ, false, Some, IfSome, min, length, drop};
+ghost use Rattle.std.specs.Io.KnownBytes.{IsAtEnd};
+ghost use Rattle.bp_base.specs.Faults.{last_count, Counts};
+ghost use Rattle.bp_base.specs.Told.{Gains, Loses};
+ghost use Rattle.bp_base.specs.Moves.{read_count, read_bytes, ReadFits, ended_after};
 ghost use Rattle.bp_base.specs.Places.{joined};
-ghost use Rattle.bp_base.specs.Forms.{source_calls, pieces_given, pieces_left};
+ghost use Rattle.bp_base.specs.Forms.{source_calls, FailsAsListed, pieces_given, pieces_left};
 
 use crate::calls::Calls;
 use crate::pieces::Pieces;
@@ -66,7 +69,22 @@ impl Source for MemSource {
 
     ghost ended = { λ s. s.ended };
 
-    fn read(&mut self, into: &mut [u8], _patience: Patience) -> ReadGot {
+    fn read(&mut self, into: &mut [u8], _patience: Patience) -> ReadGot
+        requires { 1 ≤ length into.old }
+        ensures fits { ReadFits result (length into.old) }
+        ensures given { Gains ⟦<MemSource as Source>⟧.given self.old self.new
+            (read_bytes result into.new) }
+        ensures left { Loses ⟦<MemSource as Source>⟧.left self.old self.new
+            (read_bytes result into.new) }
+        ensures rest { drop (read_count result) into.new ≡ drop (read_count result) into.old }
+        ensures never_idle { result ≢ ReadGot.Idle }
+        ensures at_end { result ≡ ReadGot.End → IsAtEnd (⟦<MemSource as Source>⟧.left self.new) }
+        ensures ended { ⟦<MemSource as Source>⟧.ended self.new
+            ≡ ended_after (⟦<MemSource as Source>⟧.ended self.old) result }
+        ensures faults { Counts ⟦<MemSource as Source>⟧.faults self.old self.new
+            (result ≡ ReadGot.Failed) }
+        ensures listed { FailsAsListed source_calls self.old self.new (result ≡ ReadGot.Failed) }
+    {
         if self.calls.next_fails() {
             return ReadGot::Failed;
         }

@@ -161,6 +161,46 @@ fn a_source_is_read_to_its_end(rt: HostRuntime) -> Result<(), Fail> {
     Ok(())
 }
 
+// A source that gives its bytes only to a read that waits without end.
+#[derive(Drop)]
+struct Late {
+    source: SteadySource,
+}
+
+impl Source for Late {
+    ghost faults = { λ _. 0 };
+
+    ghost given = { λ s. ⟦<SteadySource as Source>⟧.given s.source };
+
+    ghost left = { λ s. ⟦<SteadySource as Source>⟧.left s.source };
+
+    ghost ended = { λ s. ⟦<SteadySource as Source>⟧.ended s.source };
+
+    fn read(&mut self, into: &mut [u8], patience: Patience) -> ReadGot {
+        match patience {
+            Patience::Forever => self.source.read(into, patience),
+            Patience::Poll | Patience::Millis(_) => ReadGot::Idle,
+        }
+    }
+}
+
+#[test]
+fn a_source_that_is_idle_to_all_but_forever_is_read_to_its_end(
+    rt: HostRuntime,
+) -> Result<(), Fail> {
+    let alloc = rt.alloc();
+    let mut late = Late {
+        source: SteadySource::new(alloc, pieces(alloc, &[b"ab", b"c"])?),
+    };
+    let mut into = [b'.'; 4];
+    assert_eq!(rt; late.read(&mut into, Patience::Poll), ReadGot::Idle);
+    assert_eq!(rt;
+        read_all(alloc, &mut late, 3)?.as_slice(),
+        b"abc".as_slice()
+    );
+    Ok(())
+}
+
 #[test]
 fn a_byte_too_many_or_a_failed_read_is_refused(rt: HostRuntime) -> Result<(), Fail> {
     let alloc = rt.alloc();

@@ -1,7 +1,9 @@
 // Wires in memory.
-ghost use Rattle.std.specs.Prelude.{◌≡◌, ◌++◌, [], ℕ, List, Some, length, slice_set, take};
-ghost use Rattle.bp_base.specs.Moves.{GivenIsFront-take};
-ghost use Rattle.bp_base.specs.Forms.{wire_calls, bend_of, queue_put, queue_taken};
+ghost use Rattle.std.specs.Prelude.{◌≡◌, ◌≢◌, ◌++◌, [], ℕ, List, Some, length, slice_set, take};
+ghost use Rattle.bp_base.specs.Faults.{GoesOn};
+ghost use Rattle.bp_base.specs.Told.{Gains};
+ghost use Rattle.bp_base.specs.Moves.{put_bytes, got_bytes, GotFits, GetsAll, GivenIsFront-take};
+ghost use Rattle.bp_base.specs.Forms.{wire_calls, bend_of, FailsAsListed, queue_put, queue_taken};
 
 use crate::calls::Calls;
 use crate::queue::Queue;
@@ -63,14 +65,31 @@ impl Wire for MemWire {
 
     ghost front = { λ w _. GivenIsFront-take w.queue.taken w.queue.bytes.items };
 
-    fn put(&mut self, piece: &[u8]) -> PutDone {
+    fn put(&mut self, piece: &[u8]) -> PutDone
+        ensures sent { Gains ⟦<MemWire as Wire>⟧.sent self.old self.new
+            (put_bytes result piece.now) }
+        ensures given { ⟦<MemWire as Wire>⟧.given self.new ≡ ⟦<MemWire as Wire>⟧.given self.old }
+        ensures wire { GoesOn ⟦<MemWire as Wire>⟧.faults ⟦<MemWire as Wire>⟧.honest
+            self.old self.new (result ≡ PutDone.Failed) }
+        ensures listed { FailsAsListed wire_calls self.old self.new (result ≡ PutDone.Failed) }
+    {
         if self.calls.next_fails() {
             return PutDone::Failed;
         }
         self.queue.put(piece)
     }
 
-    fn get(&mut self, into: &mut [u8]) -> Got {
+    fn get(&mut self, into: &mut [u8]) -> Got
+        ensures fits { GotFits result (length into.old) }
+        ensures sent { ⟦<MemWire as Wire>⟧.sent self.new ≡ ⟦<MemWire as Wire>⟧.sent self.old }
+        ensures given { Gains ⟦<MemWire as Wire>⟧.given self.old self.new
+            (got_bytes result into.new) }
+        ensures all { GetsAll ⟦<MemWire as Wire>⟧.sent ⟦<MemWire as Wire>⟧.given self.old
+            (length into.old) result }
+        ensures wire { GoesOn ⟦<MemWire as Wire>⟧.faults ⟦<MemWire as Wire>⟧.honest
+            self.old self.new (result ≡ Got.Failed) }
+        ensures listed { FailsAsListed wire_calls self.old self.new (result ≡ Got.Failed) }
+    {
         if self.calls.next_fails() {
             return Got::Failed;
         }
@@ -176,11 +195,26 @@ impl Wire for BentWire {
 
     ghost front = { λ _ honest. absurd honest };
 
-    fn put(&mut self, piece: &[u8]) -> PutDone {
+    fn put(&mut self, piece: &[u8]) -> PutDone
+        ensures sent { Gains ⟦<BentWire as Wire>⟧.sent self.old self.new
+            (put_bytes result piece.now) }
+        ensures given { ⟦<BentWire as Wire>⟧.given self.new ≡ ⟦<BentWire as Wire>⟧.given self.old }
+        ensures never_fails { result ≢ PutDone.Failed }
+        ensures bend { bend_of self.new ≡ bend_of self.old }
+    {
         self.queue.put(piece)
     }
 
-    fn get(&mut self, into: &mut [u8]) -> Got {
+    fn get(&mut self, into: &mut [u8]) -> Got
+        ensures fits { GotFits result (length into.old) }
+        ensures sent { ⟦<BentWire as Wire>⟧.sent self.new ≡ ⟦<BentWire as Wire>⟧.sent self.old }
+        ensures given { Gains ⟦<BentWire as Wire>⟧.given self.old self.new
+            (got_bytes result into.new) }
+        ensures all { GetsAll ⟦<BentWire as Wire>⟧.sent ⟦<BentWire as Wire>⟧.given self.old
+            (length into.old) result }
+        ensures never_fails { result ≢ Got.Failed }
+        ensures bend { bend_of self.new ≡ bend_of self.old }
+    {
         let from = self.queue.taken;
         let got = self.queue.get(into);
         let count = self.queue.taken - from;
