@@ -5,4 +5,5 @@ pub mod Stands
 pub mod Showing
 pub mod Replayed
 pub mod Input
+pub mod Commands
 pub mod Means

@@ -1,11 +1,12 @@
--- What each status of a run means.
-use Rattle.std.specs.Prelude.{Option, ◌≡◌, ℕ, List, [], ◌∷◌, take, codes, string_bytes, String, ◌⊎◌}
+-- What each status of a run means, whatever the command.
+use Rattle.std.specs.Prelude.{Option, Some, None, ◌≡◌, ◌<◌, ◌^◌, ◌↔◌, ℕ, List, [], take, codes, String, ◌⊎◌, IsSome, IsSomeAnd, IfSome, length, ⊤}
 use Rattle.std.specs.declared.alloc.Global.{Global}
-use Rattle.std.specs.Io.KnownBytes.{append_known}
 use Rattle.rpc_world.specs.declared.schedule.Schedule.{Schedule}
-use Rattle.rpc_world.specs.Input.{IsInput, IsBadLine}
-use Rattle.rpc_world.specs.Report.{line, at_line}
-use Rattle.rpc_tool.specs.Replayed.{IsReported, IsReplayed}
+use Rattle.rpc_world.specs.Input.{IsInput}
+use Rattle.rpc_world.specs.Report.{line}
+use Rattle.rpc_tool.specs.Commands.{Names, IsNamed, IsDone, IsRefusal, MeetsWires}
+use Rattle.rpc_tool.specs.Replayed.{FreshOver, HonestOver, ReportedOver, ReplayedOver}
+use Rattle.rpc_tool.specs.declared.command.Command.{Command}
 use Rattle.rpc_tool.specs.declared.status.Status.{Status}
 use Rattle.rpc_tool.specs.declared.status.Status.TheVariants.{Done, Refused, Usage, ReadFault, WriteFault, WireFault, OutOfMemory, TooLong}
 
@@ -20,92 +21,107 @@ code_of WireFault = 5
 code_of OutOfMemory = 6
 code_of TooLong = 7
 
--- the words of the one command
-abbrev pub IsReplay : List (String Global) → Type 0
-IsReplay [] = ⊥
-IsReplay (word ∷ []) = string_bytes word ≡ codes "replay"
-IsReplay (word ∷ other ∷ words) = ⊥
+-- how many bytes of input a command takes
+abbrev pub most_input : ℕ
+most_input = 2 ^ 26
 
 abbrev pub usage_line : List ℕ
-usage_line = line (codes "usage: rpc show SHAPE | write SHAPE | frames | menu NAME VERSIONS | replay | gen N")
+usage_line =
+    line (codes "usage: rpc show SHAPE | write SHAPE | frames | menu NAME VERSIONS | replay | gen N")
 
-abbrev pub refused_line : ℕ → List ℕ
-refused_line number = at_line number (codes "not in the first path")
+-- A text is a report of a schedule, by what two wires told before and tell now: over fresh wires it
+-- shows what they gave, and over honest ones it is the text of the replay.
+abbrev pub ReportsOver : {W : Type 0} → (W → Type 0) → (W → Option (List ℕ)) → (W → Option (List ℕ))
+    → W → W → W → W → Schedule → List ℕ → Type 0
+ReportsOver honest sent given up_old up_new down_old down_new s text =
+    (FreshOver sent given up_old down_old → ReportedOver sent given up_new down_new s text)
+    × (HonestOver honest sent given up_old down_old
+    → ReplayedOver sent given up_new down_new s text)
 
--- A text is a report of a schedule, by what the wires told before and tell now: over fresh wires it shows what they gave, and
--- over honest ones it is the text of the replay.
-abbrev pub IsReport : Type 0 → Type 0 → Option (List ℕ) → Option (List ℕ) → Option (List ℕ) → Option (List ℕ) → Schedule → List ℕ → Type 0
-IsReport honest fresh up_sent up_given down_sent down_given s text =
-    (fresh → IsReported s text up_sent up_given down_sent down_given) × (honest → fresh → IsReplayed s text up_sent up_given down_sent down_given)
+-- A text is what a run has to write at a status, by the command that its words name: the usage line
+-- where they name none, and else what the command writes once it is done or where it refuses.
+abbrev pub IsAnswer : (Schedule → List ℕ → Type 0) → Option Command → List ℕ → Status → List ℕ
+    → Type 0
+IsAnswer Reports None input Usage text = text ≡ usage_line
+IsAnswer Reports (Some command) input Done text = IsDone Reports command input text
+IsAnswer Reports (Some command) input Refused text = IsRefusal command input text
+IsAnswer Reports command input status text = ⊥
 
--- A text is what a run has to write at a status: the usage line where the words are no command, the line of an input that is
--- refused, or a report of the schedule that the input spells.
-abbrev pub IsAnswer : List (String Global) → List ℕ → (Schedule → List ℕ → Type 0) → Status → List ℕ → Type 0
-IsAnswer words input Reports Usage text = (IsReplay words → ⊥) × (text ≡ usage_line)
-IsAnswer words input Reports Refused text = IsReplay words × ((number : ℕ) × IsBadLine input number × (text ≡ refused_line number))
-IsAnswer words input Reports Done text = IsReplay words × ((s : Schedule) × IsInput input s × Reports s text)
-IsAnswer words input Reports ReadFault text = ⊥
-IsAnswer words input Reports WriteFault text = ⊥
-IsAnswer words input Reports WireFault text = ⊥
-IsAnswer words input Reports OutOfMemory text = ⊥
-IsAnswer words input Reports TooLong text = ⊥
-
--- an answer was written whole
-abbrev pub IsWritten : List (String Global) → List ℕ → (Schedule → List ℕ → Type 0) → Status → Option (List ℕ) → Option (List ℕ) → Type 0
-IsWritten words input Reports status before now = (text : List ℕ) × IsAnswer words input Reports status text × (now ≡ append_known before text)
-
--- What each status means: an answer was written whole, or a front of one where writing failed, or nothing was written. A wire
--- fails only where the input spells a schedule.
-abbrev pub Means : List (String Global) → List ℕ → (Schedule → List ℕ → Type 0) → Option (List ℕ) → Option (List ℕ) → Status → Type 0
-Means words input Reports before now Done = IsWritten words input Reports Done before now
-Means words input Reports before now Refused = IsWritten words input Reports Refused before now
-Means words input Reports before now Usage = IsWritten words input Reports Usage before now
-Means words input Reports before now WriteFault =
-    (status : Status) × (text : List ℕ) × (count : ℕ) × IsAnswer words input Reports status text × (now ≡ append_known before (take count text))
-Means words input Reports before now WireFault = IsReplay words × ((s : Schedule) × IsInput input s) × (now ≡ before)
-Means words input Reports before now ReadFault = IsReplay words × (now ≡ before)
-Means words input Reports before now OutOfMemory = IsReplay words × (now ≡ before)
-Means words input Reports before now TooLong = IsReplay words × (now ≡ before)
-
--- an answer was written whole, or else a front of it and the status says so
-abbrev pub IsAnswered : Status → List ℕ → Option (List ℕ) → Option (List ℕ) → Status → Type 0
-IsAnswered status text before now result =
-    ((result ≡ status) × (now ≡ append_known before text)) ⊎ ((result ≡ WriteFault) × ((count : ℕ) × (now ≡ append_known before (take count text))))
-
--- what a run does after its words and its input were read: the statuses that are left
-abbrev pub IsReadThrough : Status → Type 0
-IsReadThrough Done = Unit {0}
-IsReadThrough Refused = Unit {0}
-IsReadThrough Usage = ⊥
-IsReadThrough ReadFault = ⊥
-IsReadThrough WriteFault = Unit {0}
-IsReadThrough WireFault = Unit {0}
-IsReadThrough OutOfMemory = Unit {0}
-IsReadThrough TooLong = ⊥
+-- What a run says at a status, where `Writes text` is that exactly this text was put to the output:
+-- an answer, or a front of one where writing failed, or nothing.
+abbrev pub IsSaid : (Schedule → List ℕ → Type 0) → Option Command → List ℕ → (List ℕ → Type 0)
+    → Status → Type 0
+IsSaid Reports command input Writes Done =
+    (text : List ℕ) × IsAnswer Reports command input Done text × Writes text
+IsSaid Reports command input Writes Refused =
+    (text : List ℕ) × IsAnswer Reports command input Refused text × Writes text
+IsSaid Reports command input Writes Usage =
+    (text : List ℕ) × IsAnswer Reports command input Usage text × Writes text
+IsSaid Reports command input Writes WriteFault =
+    (status : Status) × (text : List ℕ) × (count : ℕ)
+    × IsAnswer Reports command input status text × Writes (take count text)
+IsSaid Reports command input Writes WireFault =
+    IsSomeAnd command (λ c. MeetsWires c input) × Writes []
+IsSaid Reports command input Writes ReadFault = IsSome command × Writes []
+IsSaid Reports command input Writes OutOfMemory = IsSome command × Writes []
+IsSaid Reports command input Writes TooLong = IsSome command × Writes []
 
 -- the statuses at which the input was read to its end
 abbrev pub IsReadWhole : Status → Type 0
-IsReadWhole Done = Unit {0}
-IsReadWhole Refused = Unit {0}
-IsReadWhole WireFault = Unit {0}
-IsReadWhole Usage = ⊥
-IsReadWhole ReadFault = ⊥
-IsReadWhole WriteFault = ⊥
-IsReadWhole OutOfMemory = ⊥
-IsReadWhole TooLong = ⊥
+IsReadWhole Done = ⊤
+IsReadWhole Refused = ⊤
+IsReadWhole WireFault = ⊤
+IsReadWhole status = ⊥
 
--- what was written is a report of the schedule that a text spells, as it is over any wires
-pub record IsReportOf (text : List ℕ) (before now up_sent up_given down_sent down_given : Option (List ℕ)) : Type 0 where
+-- the codes of these
+abbrev pub IsWholeCode : ℕ → Type 0
+IsWholeCode code = (status : Status) × IsReadWhole status × (code ≡ code_of status)
+
+-- What the code of a run means. `left` is what its input had to give, where told; `Comes bytes` is that
+-- these bytes came from it, and `Writes text` that exactly this text was put to the output.
+pub record Means (Reports : Schedule → List ℕ → Type 0) (Comes : List ℕ → Type 0)
+    (left : Option (List ℕ)) (Writes : List ℕ → Type 0) (words : List (String Global))
+    (code : ℕ) : Type 0 where
+  pub command : Option Command
+  pub named : IsNamed words command
+  pub status : Status
+  pub coded : code ≡ code_of status
+  pub bytes : List ℕ
+  pub came : Comes bytes
+  pub too_long : status ≡ TooLong ↔ most_input < length bytes
+  pub whole : IsReadWhole status → IfSome left (λ text. bytes ≡ text)
+  pub said : IsSaid Reports command bytes Writes status
+
+-- what the status of a command means, whatever words name it
+abbrev pub MeansOf : (Schedule → List ℕ → Type 0) → (List ℕ → Type 0) → Option (List ℕ)
+    → (List ℕ → Type 0) → Command → Status → Type 0
+MeansOf Reports Comes left Writes command status =
+    (words : List (String Global)) → Names command words
+    → Means Reports Comes left Writes words (code_of status)
+
+-- an answer was written whole, or else a front of it and the status says so
+abbrev pub IsAnswered : Status → List ℕ → (List ℕ → Type 0) → Status → Type 0
+IsAnswered status text Writes result =
+    ((result ≡ status) × Writes text)
+    ⊎ ((result ≡ WriteFault) × ((count : ℕ) × Writes (take count text)))
+
+-- the statuses that are left once the input was read
+abbrev pub IsReadThrough : Status → Type 0
+IsReadThrough Usage = ⊥
+IsReadThrough ReadFault = ⊥
+IsReadThrough TooLong = ⊥
+IsReadThrough status = ⊤
+
+-- what was written is a report of the schedule that a text spells
+pub record IsReportOf (Reports : Schedule → List ℕ → Type 0) (text : List ℕ)
+    (Writes : List ℕ → Type 0) : Type 0 where
   pub schedule : Schedule
   pub spelled : IsInput text schedule
   pub report : List ℕ
-  pub reported : IsReported schedule report up_sent up_given down_sent down_given
-  pub written : now ≡ append_known before report
+  pub reported : Reports schedule report
+  pub written : Writes report
 
--- what was written is the replay of the schedule that a text spells, and the wires tell its last world
-pub record IsReplayOf (text : List ℕ) (before now up_sent up_given down_sent down_given : Option (List ℕ)) : Type 0 where
-  pub schedule : Schedule
-  pub spelled : IsInput text schedule
-  pub report : List ℕ
-  pub replayed : IsReplayed schedule report up_sent up_given down_sent down_given
-  pub written : now ≡ append_known before report
+-- the same of an input, where it tells what it had to give
+abbrev pub IsReportOfInput : (Schedule → List ℕ → Type 0) → Option (List ℕ) → (List ℕ → Type 0)
+    → Type 0
+IsReportOfInput Reports left Writes = IfSome left (λ text. IsReportOf Reports text Writes)

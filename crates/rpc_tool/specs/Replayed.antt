@@ -21,6 +21,13 @@ pub record AreFresh (up_sent up_given down_sent down_given : Option (List ℕ)) 
 abbrev pub FreshOver : {W : Type 0} → (W → Option (List ℕ)) → (W → Option (List ℕ)) → W → W → Type 0
 FreshOver sent given up down = AreFresh (sent up) (given up) (sent down) (given down)
 
+-- and they are honest
+pub record HonestOver {W : Type 0} (is_honest : W → Type 0) (sent given : W → Option (List ℕ))
+    (up down : W) : Type 0 where
+  pub up_honest : is_honest up
+  pub down_honest : is_honest down
+  pub fresh : FreshOver sent given up down
+
 -- the world after all events of a schedule
 abbrev pub last_world : Schedule → World
 last_world s = after (first_world s.name s.version) s.events
@@ -33,9 +40,9 @@ pub record IsReplayed (s : Schedule) (report : List ℕ) (up_sent up_given down_
   pub down_told : down_sent ≡ Some (down_stream (last_world s))
   pub down_came : down_given ≡ Some (take (last_world s).down_moved (down_stream (last_world s)))
 
-abbrev pub ReplayedOver : {W : Type 0} → (W → Option (List ℕ)) → (W → Option (List ℕ)) → Schedule
-    → W → W → List ℕ → Type 0
-ReplayedOver sent given s up down report =
+abbrev pub ReplayedOver : {W : Type 0} → (W → Option (List ℕ)) → (W → Option (List ℕ)) → W → W
+    → Schedule → List ℕ → Type 0
+ReplayedOver sent given up down s report =
     IsReplayed s report (sent up) (given up) (sent down) (given down)
 
 -- the label of a dispatch that an event asks for
@@ -84,9 +91,9 @@ pub record IsReported (s : Schedule) (report : List ℕ) (up_sent up_given down_
   pub down_came : down_given ≡ Some down_came_bytes
   pub seen : IsSeen s shown up_bytes up_came_bytes down_bytes down_came_bytes
 
-abbrev pub ReportedOver : {W : Type 0} → (W → Option (List ℕ)) → (W → Option (List ℕ)) → Schedule
-    → W → W → List ℕ → Type 0
-ReportedOver sent given s up down report =
+abbrev pub ReportedOver : {W : Type 0} → (W → Option (List ℕ)) → (W → Option (List ℕ)) → W → W
+    → Schedule → List ℕ → Type 0
+ReportedOver sent given up down s report =
     IsReported s report (sent up) (given up) (sent down) (given down)
 
 -- a client made its dispatch for an ask among some events, or made none

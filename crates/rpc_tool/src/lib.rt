@@ -2,6 +2,7 @@
 #![tactic(auto)]
 
 mod carry;
+mod command;
 mod ends;
 mod failure;
 mod inbox;

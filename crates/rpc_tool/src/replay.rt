@@ -3,7 +3,7 @@ ghost use Rattle.std.specs.Prelude.{IfOk, IsErrOf};
 ghost use Rattle.bp_base.specs.Faults.{BothGoOn};
 ghost use Rattle.rpc_world.specs.Input.{IsWellFormed};
 ghost use Rattle.rpc_tool.specs.declared.failure.Failure.TheVariants as failure;
-ghost use Rattle.rpc_tool.specs.Replayed.{FreshOver, ReplayedOver, ReportedOver};
+ghost use Rattle.rpc_tool.specs.Replayed.{FreshOver, HonestOver, ReplayedOver, ReportedOver};
 
 use crate::failure::Failure;
 use crate::input::FIRST_EVENT_LINE;
@@ -26,12 +26,11 @@ pub fn replay<W: Wire>(
 
     // Over fresh wires that tell their bytes, honest or not.
     ensures reported { FreshOver W.sent W.given up.old down.old → IfOk result
-        (λ report. ReportedOver W.sent W.given schedule.now up.new down.new report.items) }
+        (λ report. ReportedOver W.sent W.given up.new down.new schedule.now report.items) }
 
     // Over fresh honest wires that tell their bytes.
-    ensures replayed { W.honest up.old → W.honest down.old
-        → FreshOver W.sent W.given up.old down.old → IfOk result
-        (λ report. ReplayedOver W.sent W.given schedule.now up.new down.new report.items) }
+    ensures replayed { HonestOver W.honest W.sent W.given up.old down.old → IfOk result
+        (λ report. ReplayedOver W.sent W.given up.new down.new schedule.now report.items) }
 {
     let mut pair = Pair::open(
         alloc,

@@ -1,16 +1,17 @@
 // The top call of the program `rpc`.
-ghost use Rattle.std.specs.declared.alloc.Global.{Global};
-ghost use Rattle.std.specs.Prelude.{String, Some, None, ◌≡◌, ◌≢◌, ◌≤◌, ◌<◌, ◌^◌, ◌⊎◌, ◌↔◌, true, ℕ, List, length, IsTrue, IfSome};
+ghost use Rattle.std.specs.Prelude.{String, Some, ◌≡◌, ◌≢◌, ◌⊎◌, ◌≤◌, true, ℕ, List, []};
 ghost use Rattle.std.specs.Io.KnownBytes.{IsAtEnd};
 ghost use Rattle.bp_base.specs.Faults.{Counts, BothGoOn};
+ghost use Rattle.bp_base.specs.Told.{Gains};
 ghost use Rattle.bp_base.specs.Whole.{Came};
-ghost use Rattle.rpc_world.specs.declared.schedule.Schedule.{Schedule};
-ghost use Rattle.rpc_world.specs.Input.{IsInput, IsBadLine, IsWellFormed};
+ghost use Rattle.rpc_tool.specs.declared.command.Command.TheVariants as command;
 ghost use Rattle.rpc_tool.specs.declared.status.Status.{Status};
 ghost use Rattle.rpc_tool.specs.declared.status.Status.TheVariants as outcome;
-ghost use Rattle.rpc_tool.specs.Replayed.{AreFresh};
-ghost use Rattle.rpc_tool.specs.Means.{code_of, IsReplay, IsReport, refused_line, usage_line, Means, IsAnswered, IsReadThrough, IsReadWhole, IsReportOf, IsReplayOf};
+ghost use Rattle.rpc_tool.specs.Replayed.{FreshOver, HonestOver, ReportedOver, ReplayedOver};
+ghost use Rattle.rpc_tool.specs.Commands.{refused_line};
+ghost use Rattle.rpc_tool.specs.Means.{code_of, ReportsOver, Means, MeansOf, IsSaid, IsAnswered, IsReadThrough, IsReadWhole, IsWholeCode, IsReportOfInput};
 
+use crate::command::{Command, command_of};
 use crate::failure::Failure;
 use crate::input::{InputError, read_schedule};
 use crate::replay::replay;
@@ -39,45 +40,37 @@ pub fn run<I: Source, O: Sink, W: Wire>(
     down: &mut W,
 ) -> u8
     // A fault is answered exactly where the count of the object that failed rose in this call.
-    ensures read { Counts I.faults input.old input.new (result ≡ 3) }
-    ensures write { Counts O.faults out.old out.new (result ≡ 4) }
-    ensures wires { BothGoOn W.faults W.honest up.old up.new down.old down.new (result ≡ 5) }
+    ensures read { Counts I.faults input.old input.new (result ≡ code_of outcome.ReadFault) }
+    ensures write { Counts O.faults out.old out.new (result ≡ code_of outcome.WriteFault) }
+    ensures wires { BothGoOn W.faults W.honest up.old up.new down.old down.new
+        (result ≡ code_of outcome.WireFault) }
 
-    // What the status means, of the bytes of input that came: all of it, where it was read to its end.
-    ensures means { (status : Status) × (bytes : List ℕ) × (result ≡ code_of status)
-        × Came I.given I.left input.old input.new bytes
-        × (status ≡ outcome.TooLong ↔ 2 ^ 26 < length bytes)
-        × (IsReadWhole status → IfSome (I.left input.old) (λ text. bytes ≡ text))
-        × Means words.now bytes
-        (IsReport (W.honest up.old × W.honest down.old) (AreFresh (W.sent up.old) (W.given up.old) (W.sent down.old) (W.given down.old))
-        (W.sent up.new) (W.given up.new) (W.sent down.new) (W.given down.new))
-        (O.put out.old) (O.put out.new) status }
+    // What the code means, of the words, the bytes of input that came and what was written.
+    ensures means { Means (ReportsOver W.honest W.sent W.given up.old up.new down.old down.new)
+        (Came I.given I.left input.old input.new) (I.left input.old)
+        (Gains O.put out.old out.new) words.now result }
 
     // A report is written, and an input refused, only once the input was read to its end.
-    ensures ended { (result ≡ 0) ⊎ (result ≡ 1) → (I.ended input.new ≡ true) × IsAtEnd (I.left input.new) }
+    ensures ended { IsWholeCode result → (I.ended input.new ≡ true) × IsAtEnd (I.left input.new) }
 
     // Over fresh wires that tell their bytes, honest or not, a report shows what they gave.
-    ensures reported { (text : List ℕ) → I.left input.old ≡ Some text
-        → AreFresh (W.sent up.old) (W.given up.old) (W.sent down.old) (W.given down.old) → result ≡ 0
-        → IsReportOf text (O.put out.old) (O.put out.new) (W.sent up.new) (W.given up.new) (W.sent down.new) (W.given down.new) }
+    ensures reported { FreshOver W.sent W.given up.old down.old → result ≡ code_of outcome.Done
+        → IsReportOfInput (ReportedOver W.sent W.given up.new down.new) (I.left input.old)
+        (Gains O.put out.old out.new) }
 
-    // Over honest ones it is the text of the replay, whatever the cut, and the wires tell the last world.
-    ensures replayed { (text : List ℕ) → I.left input.old ≡ Some text → W.honest up.old → W.honest down.old
-        → AreFresh (W.sent up.old) (W.given up.old) (W.sent down.old) (W.given down.old) → result ≡ 0
-        → IsReplayOf text (O.put out.old) (O.put out.new) (W.sent up.new) (W.given up.new) (W.sent down.new) (W.given down.new) }
+    // Over honest ones it is the text of the replay, whatever the cut, and they tell the last world.
+    ensures replayed { HonestOver W.honest W.sent W.given up.old down.old
+        → result ≡ code_of outcome.Done
+        → IsReportOfInput (ReplayedOver W.sent W.given up.new down.new) (I.left input.old)
+        (Gains O.put out.old out.new) }
 {
-    if !is_replay(words) {
-        return answer(out, USAGE, Status::Usage).code();
+    match command_of(words) {
+        Some(Command::Replay) => replay_input(alloc, input, out, up, down).code(),
+        None => answer(out, USAGE, Status::Usage).code(),
     }
-    replay_input(alloc, input, out, up, down).code()
 }
 
-fn is_replay(words: &[String]) -> bool
-    ensures { IsTrue result ↔ IsReplay words.now }
-{
-    words.len() == 1 && words[0].as_str() == "replay"
-}
-
+/// Replays the schedule that the input spells.
 fn replay_input<I: Source, O: Sink, W: Wire>(
     alloc: Global,
     input: &mut I,
@@ -89,14 +82,9 @@ fn replay_input<I: Source, O: Sink, W: Wire>(
     ensures write { Counts O.faults out.old out.new (result ≡ outcome.WriteFault) }
     ensures wires { BothGoOn W.faults W.honest up.old up.new down.old down.new
         (result ≡ outcome.WireFault) }
-    ensures means { (bytes : List ℕ)
-        × Came I.given I.left input.old input.new bytes
-        × (result ≡ outcome.TooLong ↔ 2 ^ 26 < length bytes)
-        × (IsReadWhole result → IfSome (I.left input.old) (λ text. bytes ≡ text))
-        × ((words : List (String Global)) → IsReplay words → Means words bytes
-        (IsReport (W.honest up.old × W.honest down.old) (AreFresh (W.sent up.old) (W.given up.old) (W.sent down.old) (W.given down.old))
-        (W.sent up.new) (W.given up.new) (W.sent down.new) (W.given down.new))
-        (O.put out.old) (O.put out.new) result) }
+    ensures means { MeansOf (ReportsOver W.honest W.sent W.given up.old up.new down.old down.new)
+        (Came I.given I.left input.old input.new) (I.left input.old)
+        (Gains O.put out.old out.new) command.Replay result }
     ensures ended { IsReadWhole result → (I.ended input.new ≡ true) × IsAtEnd (I.left input.new) }
 {
     match read_all(alloc, input, MAX_INPUT) {
@@ -107,6 +95,7 @@ fn replay_input<I: Source, O: Sink, W: Wire>(
     }
 }
 
+/// Replays the schedule that a text spells.
 fn replay_text<O: Sink, W: Wire>(
     alloc: Global,
     text: &[u8],
@@ -118,10 +107,8 @@ fn replay_text<O: Sink, W: Wire>(
     ensures wires { BothGoOn W.faults W.honest up.old up.new down.old down.new
         (result ≡ outcome.WireFault) }
     ensures through { IsReadThrough result }
-    ensures means { (words : List (String Global)) → IsReplay words → Means words text.now
-        (IsReport (W.honest up.old × W.honest down.old) (AreFresh (W.sent up.old) (W.given up.old) (W.sent down.old) (W.given down.old))
-        (W.sent up.new) (W.given up.new) (W.sent down.new) (W.given down.new))
-        (O.put out.old) (O.put out.new) result }
+    ensures said { IsSaid (ReportsOver W.honest W.sent W.given up.old up.new down.old down.new)
+        (Some command.Replay) text.now (Gains O.put out.old out.new) result }
 {
     match read_schedule(alloc, text) {
         Ok(schedule) => match replay(alloc, &schedule, up, down) {
@@ -137,8 +124,8 @@ fn replay_text<O: Sink, W: Wire>(
 /// Writes which line of the input is refused.
 fn refuse<O: Sink>(alloc: Global, number: u64, out: &mut O) -> Status
     ensures write { Counts O.faults out.old out.new (result ≡ outcome.WriteFault) }
-    ensures answered { IsAnswered outcome.Refused (refused_line number) (O.put out.old) (O.put out.new) result
-        ⊎ ((result ≡ outcome.OutOfMemory) × (O.put out.new ≡ O.put out.old)) }
+    ensures answered { IsAnswered outcome.Refused (refused_line number) (Gains O.put out.old out.new)
+        result ⊎ ((result ≡ outcome.OutOfMemory) × Gains O.put out.old out.new []) }
 {
     let mut line = Vec::new(alloc);
     match push_at_line(alloc, &mut line, number, NOT_IN_FORM) {
@@ -151,7 +138,7 @@ fn refuse<O: Sink>(alloc: Global, number: u64, out: &mut O) -> Status
 fn answer<O: Sink>(out: &mut O, text: &[u8], status: Status) -> Status
     requires { status ≢ outcome.WriteFault }
     ensures write { Counts O.faults out.old out.new (result ≡ outcome.WriteFault) }
-    ensures answered { IsAnswered status text.now (O.put out.old) (O.put out.new) result }
+    ensures answered { IsAnswered status text.now (Gains O.put out.old out.new) result }
 {
     let Ok(()) = write_all(out, text) else {
         return Status::WriteFault;

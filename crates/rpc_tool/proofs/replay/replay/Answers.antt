@@ -26,9 +26,11 @@ events-preserved g c =
           (asked-next _ _ before c.index-events-index.result c.events.invariant.asked c.in_ok-answer.ensures.label);
       answers = answers-next _ _ _ _ c.events.invariant.answers c.in_ok-push_answer.ensures;
       told = λ fresh. c.in_ok-answer.ensures.told (c.events.invariant.told fresh);
-      world = λ up_honest down_honest fresh.
-          let was = c.events.invariant.world up_honest down_honest fresh in
-          let stepped = c.in_ok-answer.ensures.world (after first before) (c.events.invariant.wires.up_honest.0 up_honest) (c.events.invariant.wires.down_honest.0 down_honest) was.0 in
+      world = λ honest.
+          let was = c.events.invariant.world honest in
+          let stepped = c.in_ok-answer.ensures.world (after first before)
+          (c.events.invariant.wires.up_honest.0 honest.up_honest)
+          (c.events.invariant.wires.down_honest.0 honest.down_honest) was.0 in
           world-next _ first _ before c.index-events-index.result c.events.index _ _ _ _ _ _ _ more
           (length-before c.as_slice-events.result.now c.events.index c.events.invariant.within) was.1 stepped c.in_ok-push_answer.ensures;
     }
@@ -44,8 +46,8 @@ returns-clause-reported g c = λ fresh.
     some.1 some.2
 
 pub returns-clause-replayed : goal.returns-clause-replayed
-returns-clause-replayed g c = λ up_honest down_honest fresh.
+returns-clause-replayed g c = λ honest.
     let some = c.in_ok-push_closing.ensures in
-    let last = c.events.invariant.world up_honest down_honest fresh in
+    let last = c.events.invariant.world honest in
     let all = take_all c.events.index c.as_slice-events.result.now (omega arith) ∙ c.as_slice-events.ensures in
     replayed c.events.pair c.args.schedule.now _ some.0 _ _ _ _ _ _ all last some.1 some.2

@@ -3,7 +3,7 @@ use Rattle.rpc_world.specs.World.{first_world, after}
 use Rattle.rpc_world.specs.Report.{answer_lines, answers_of}
 use Rattle.bp_base.specs.Faults.{BothGoOn}
 use Rattle.rpc_tool.specs.Stands.{TellsOver, StandsOver}
-use Rattle.rpc_tool.specs.Replayed.{FreshOver, IsAsked, AreAnswers}
+use Rattle.rpc_tool.specs.Replayed.{FreshOver, HonestOver, IsAsked, AreAnswers}
 use Rattle.rpc_tool.proofs.replay.replay.Given as goal
 
 abbrev pub invariant-events : goal.invariant-events
@@ -16,8 +16,7 @@ invariant-events g l = record {
   answers : AreAnswers l.report.items l.index;
   told : FreshOver g.W.Wire.sent g.W.Wire.given l.fn.up l.fn.down
       → TellsOver g.W.Wire.sent g.W.Wire.given l.pair l.up l.down;
-  world : g.W.Wire.honest l.fn.up → g.W.Wire.honest l.fn.down
-      → FreshOver g.W.Wire.sent g.W.Wire.given l.fn.up l.fn.down
+  world : HonestOver g.W.Wire.honest g.W.Wire.sent g.W.Wire.given l.fn.up l.fn.down
       → StandsOver g.W.Wire.sent g.W.Wire.given l.pair
       (after (first_world l.fn.schedule.name l.fn.schedule.version) (take l.index l.events))
       l.up l.down

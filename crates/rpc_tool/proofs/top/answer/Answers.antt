@@ -1,7 +1,9 @@
 use Rattle.std.proofs.Common.{refl, inr, ◌∙◌}
-use Rattle.rpc_tool.proofs.Answering.{appends-front}
+use Rattle.rpc_tool.proofs.Answering.{written_front}
+use Rattle.bp_base.specs.Told.{Gains}
 use Rattle.rpc_tool.proofs.top.answer.Goals as goal
 
 pub returns-in-Failed-clause-answered : goal.returns-in-Failed-clause-answered
 returns-in-Failed-clause-answered g c =
-    inr (refl, appends-front _ _ _ (c.in-Failed.ensures.kept ∙ c.in-Ok.ensures.ok))
+    let Writes = Gains g.O.Sink.put c.args.out.now c.finish.new.self in
+    inr (refl, written_front Writes _ (c.in-Failed.ensures.kept ∙ c.in-Ok.ensures.ok))

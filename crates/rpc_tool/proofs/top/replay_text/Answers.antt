@@ -1,24 +1,32 @@
-use Rattle.std.proofs.Common.{ap}
-use Rattle.std.specs.Prelude.{Err}
-use Rattle.rpc_tool.specs.Replayed.{AreFresh}
-use Rattle.rpc_tool.specs.Means.{IsReport}
-use Rattle.rpc_tool.proofs.Answering.{done-means, refused-means}
+use Rattle.std.proofs.Common.{ap, refl}
+use Rattle.std.specs.Prelude.{Err, Some}
+use Rattle.bp_base.specs.Told.{Gains}
+use Rattle.rpc_tool.specs.Means.{ReportsOver}
+use Rattle.rpc_tool.specs.declared.command.Command.TheVariants.{Replay}
+use Rattle.rpc_tool.specs.declared.status.Status.TheVariants.{Done}
+use Rattle.rpc_tool.proofs.Answering.{answered_said, refused_said}
 use Rattle.rpc_tool.proofs.top.replay_text.Goals as goal
 
-pub returns-in-Ok-replay-clause-means : goal.returns-in-Ok-replay-clause-means
-returns-in-Ok-replay-clause-means g c = λ words is_replay.
-    let fresh = AreFresh (g.W.Wire.sent c.args.up.now) (g.W.Wire.given c.args.up.now) (g.W.Wire.sent c.args.down.now) (g.W.Wire.given c.args.down.now) in
-    done-means words c.args.text.now
-    (IsReport (g.W.Wire.honest c.args.up.now × g.W.Wire.honest c.args.down.now) fresh
-    (g.W.Wire.sent c.replay.new.up) (g.W.Wire.given c.replay.new.up) (g.W.Wire.sent c.replay.new.down) (g.W.Wire.given c.replay.new.down))
-    _ _ c.in-Ok.schedule _ c.answer.result is_replay c.in-Ok.ensures.spelled
-    (c.in-Ok-replay.ensures.reported, λ honest. c.in-Ok-replay.ensures.replayed honest.0 honest.1)
+pub returns-in-Ok-replay-clause-said : goal.returns-in-Ok-replay-clause-said
+returns-in-Ok-replay-clause-said g c =
+    let Reports = ReportsOver g.W.Wire.honest g.W.Wire.sent g.W.Wire.given
+    c.args.up.now c.replay.new.up c.args.down.now c.replay.new.down in
+    answered_said Reports (Some Replay) c.args.text.now
+    (Gains g.O.Sink.put c.args.out.now c.answer.new.out) Done _ c.answer.result (
+      c.in-Ok.schedule,
+      c.in-Ok.ensures.spelled,
+      (c.in-Ok-replay.ensures.reported, c.in-Ok-replay.ensures.replayed),
+    )
     (rw c.deref.ensures.value at c.answer.ensures.answered)
 
-pub returns-in-Err-BadLine-clause-means : goal.returns-in-Err-BadLine-clause-means
-returns-in-Err-BadLine-clause-means g c = λ words is_replay.
-    let fresh = AreFresh (g.W.Wire.sent c.args.up.now) (g.W.Wire.given c.args.up.now) (g.W.Wire.sent c.args.down.now) (g.W.Wire.given c.args.down.now) in
-    refused-means words c.args.text.now
-    (IsReport (g.W.Wire.honest c.args.up.now × g.W.Wire.honest c.args.down.now) fresh
-    (g.W.Wire.sent c.args.up.now) (g.W.Wire.given c.args.up.now) (g.W.Wire.sent c.args.down.now) (g.W.Wire.given c.args.down.now))
-    _ _ c.in-Err-BadLine.line c.refuse.result is_replay (c.in-Err-BadLine.ensures.bad c.in-Err-BadLine.line (ap (λ e. Err e) c.in-Err-BadLine.field-0-is)) c.refuse.ensures.answered
+pub returns-in-Err-BadLine-clause-said : goal.returns-in-Err-BadLine-clause-said
+returns-in-Err-BadLine-clause-said g c =
+    let Reports = ReportsOver g.W.Wire.honest g.W.Wire.sent g.W.Wire.given
+    c.args.up.now c.args.up.now c.args.down.now c.args.down.now in
+    refused_said Reports Replay c.args.text.now
+    (Gains g.O.Sink.put c.args.out.now c.refuse.new.out) _ c.refuse.result (
+      c.in-Err-BadLine.line,
+      c.in-Err-BadLine.ensures.bad c.in-Err-BadLine.line (ap (λ e. Err e) c.in-Err-BadLine.field-0-is),
+      refl,
+    )
+    c.refuse.ensures.answered
