@@ -8,7 +8,8 @@ use Rattle.rpc_tool.specs.declared.command.Command.{Command}
 use Rattle.rpc_tool.specs.declared.status.Status.{Status}
 use Rattle.rpc_tool.specs.declared.status.Status.TheVariants.{Done, Refused, Usage, WriteFault, OutOfMemory, TooLong}
 use Rattle.rpc_tool.specs.Commands.{IsNamed, IsRefusal}
-use Rattle.rpc_tool.specs.Means.{code_of, most_input, IsAnswer, IsSaid, IsAnswered, IsReadThrough, IsReadWhole, Means}
+use Rattle.rpc_tool.specs.Limits.{most_input}
+use Rattle.rpc_tool.specs.Means.{code_of, IsAnswer, IsSaid, IsAnswered, IsReadThrough, IsReadWhole, Means}
 
 -- ---- answers
 

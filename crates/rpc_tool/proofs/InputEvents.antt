@@ -12,7 +12,7 @@ use Rattle.rpc_tool.specs.declared.input.line.LineError.{LineError}
 use Rattle.rpc_tool.specs.declared.input.line.LineError.TheVariants.{OutOfForm, OutOfMemory}
 use Rattle.rpc_tool.specs.Input.{texts, at_line, IsRefusedAt}
 use Rattle.rpc_tool.proofs.Words.{same_event}
-use Rattle.rpc_tool.proofs.Slices.{texts-split}
+use Rattle.rpc_tool.proofs.Slices.{texts_split}
 
 -- ---- the lines of events
 
@@ -75,9 +75,9 @@ refused_ask es event before line after h one is asks = inl (
 -- ---- the lines of events, as they are read
 
 -- only a line out of form is refused at its number
-pub at_line-bad : (number line : ℕ) (error : LineError) → at_line number error ≡ input.BadLine line → (error ≡ OutOfForm) × (line ≡ number)
-at_line-bad number line OutOfForm e = (refl, cc)
-at_line-bad number line OutOfMemory e = absurd (cc)
+pub at_line_bad : (number line : ℕ) (error : LineError) → at_line number error ≡ input.BadLine line → (error ≡ OutOfForm) × (line ≡ number)
+at_line_bad number line OutOfForm e = (refl, cc)
+at_line_bad number line OutOfMemory e = absurd (cc)
 
 -- a refusal of a line in its place, as one of all lines
 refused_in_place : (slices : List (Bor (List ℕ))) (i number : ℕ) (default : Bor (List ℕ)) → i < length slices → number ≡ 3 + i
@@ -86,7 +86,7 @@ refused_in_place : (slices : List (Bor (List ℕ))) (i number : ℕ) (default : 
 refused_in_place slices i number default lt e h =
     let n : ℕ = length ((get_or slices i default).now ∷ drop (i + 1) (texts slices)) in (
       n,
-      subst (λ lines. IsRefused AreEvents lines n) (texts-split slices i default lt) h,
+      subst (λ lines. IsRefused AreEvents lines n) (texts_split slices i default lt) h,
       omega (arith, length-map slices (λ (slice : Bor (List ℕ)). slice.now), length-drop (i + 1) (texts slices)),
     )
 

@@ -8,36 +8,36 @@ use Rattle.rpc_world.specs.declared.schedule.Event.{Event}
 use Rattle.rpc_world.specs.declared.schedule.Schedule.{Schedule}
 use Rattle.rpc_world.specs.Input.{words, schema_words, without_last_empty, IsSchemaLine, AreEvents, IsSchedule}
 use Rattle.rpc_tool.specs.Input.{texts, IsRefusedAt}
-use Rattle.rpc_tool.proofs.Slices.{texts-first, texts-last}
+use Rattle.rpc_tool.proofs.Slices.{texts_first, texts_last}
 
 -- ---- the lines of a text, as they are cut
 
-pub without_last_empty-push : (lines : List (List ℕ)) (last : List ℕ) → length last ≡ 0 → without_last_empty (lines ++ last ∷ []) ≡ lines
-without_last_empty-push lines [] e = empty lines where
+pub without_last_empty_push : (lines : List (List ℕ)) (last : List ℕ) → length last ≡ 0 → without_last_empty (lines ++ last ∷ []) ≡ lines
+without_last_empty_push lines [] e = empty lines where
   empty : (lines : List (List ℕ)) → without_last_empty (lines ++ [] ∷ []) ≡ lines
   empty [] = refl
   empty ([] ∷ []) = refl
   empty ([] ∷ line ∷ lines) = ap (λ rest. [] ∷ rest) (empty (line ∷ lines))
   empty ((b ∷ bs) ∷ lines) = ap (λ rest. (b ∷ bs) ∷ rest) (empty lines)
-without_last_empty-push lines (b ∷ bs) e = absurd (omega arith)
+without_last_empty_push lines (b ∷ bs) e = absurd (omega arith)
 
-pub without_last_empty-same : (lines : List (List ℕ)) (last : List ℕ) → length last ≢ 0 → without_last_empty (lines ++ last ∷ []) ≡ lines ++ last ∷ []
-without_last_empty-same [] [] some = absurd (some refl)
-without_last_empty-same [] (b ∷ bs) some = refl
-without_last_empty-same ([] ∷ []) last some = ap (λ rest. [] ∷ rest) (without_last_empty-same [] last some)
-without_last_empty-same ([] ∷ line ∷ lines) last some = ap (λ rest. [] ∷ rest) (without_last_empty-same (line ∷ lines) last some)
-without_last_empty-same ((b ∷ bs) ∷ lines) last some = ap (λ rest. (b ∷ bs) ∷ rest) (without_last_empty-same lines last some)
+pub without_last_empty_same : (lines : List (List ℕ)) (last : List ℕ) → length last ≢ 0 → without_last_empty (lines ++ last ∷ []) ≡ lines ++ last ∷ []
+without_last_empty_same [] [] some = absurd (some refl)
+without_last_empty_same [] (b ∷ bs) some = refl
+without_last_empty_same ([] ∷ []) last some = ap (λ rest. [] ∷ rest) (without_last_empty_same [] last some)
+without_last_empty_same ([] ∷ line ∷ lines) last some = ap (λ rest. [] ∷ rest) (without_last_empty_same (line ∷ lines) last some)
+without_last_empty_same ((b ∷ bs) ∷ lines) last some = ap (λ rest. (b ∷ bs) ∷ rest) (without_last_empty_same lines last some)
 
-pub texts-cut : (slices : List (Bor (List ℕ))) (default : Bor (List ℕ)) → 1 ≤ length slices → length (get_or slices (length slices - 1) default).now ≡ 0
+pub texts_cut : (slices : List (Bor (List ℕ))) (default : Bor (List ℕ)) → 1 ≤ length slices → length (get_or slices (length slices - 1) default).now ≡ 0
     → texts (take (length slices - 1) slices) ≡ without_last_empty (texts slices)
-texts-cut slices default h empty =
-    sym (ap without_last_empty (texts-last slices default h) ∙ without_last_empty-push (texts (take (length slices - 1) slices)) _ empty)
+texts_cut slices default h empty =
+    sym (ap without_last_empty (texts_last slices default h) ∙ without_last_empty_push (texts (take (length slices - 1) slices)) _ empty)
 
-pub texts-whole : (slices : List (Bor (List ℕ))) (default : Bor (List ℕ)) → 1 ≤ length slices → length (get_or slices (length slices - 1) default).now ≢ 0
+pub texts_whole : (slices : List (Bor (List ℕ))) (default : Bor (List ℕ)) → 1 ≤ length slices → length (get_or slices (length slices - 1) default).now ≢ 0
     → texts slices ≡ without_last_empty (texts slices)
-texts-whole slices default h some =
-    sym (ap without_last_empty (texts-last slices default h)
-    ∙ (without_last_empty-same (texts (take (length slices - 1) slices)) _ some ∙ sym (texts-last slices default h)))
+texts_whole slices default h some =
+    sym (ap without_last_empty (texts_last slices default h)
+    ∙ (without_last_empty_same (texts (take (length slices - 1) slices)) _ some ∙ sym (texts_last slices default h)))
 
 -- ---- the lines of a schedule
 
@@ -112,10 +112,10 @@ abbrev rest_of : List (Bor (List ℕ)) → List (Bor (List ℕ))
 rest_of slices = take (length slices - 1) (drop 1 slices)
 
 -- some slices, by the first two
-texts-second : (slices : List (Bor (List ℕ))) (default default' : Bor (List ℕ)) → 1 ≤ length slices → 1 ≤ length (rest_of slices)
+texts_second : (slices : List (Bor (List ℕ))) (default default' : Bor (List ℕ)) → 1 ≤ length slices → 1 ≤ length (rest_of slices)
     → texts slices ≡ (get_or slices 0 default).now ∷ (get_or (rest_of slices) 0 default').now ∷ texts (rest_of (rest_of slices))
-texts-second slices default default' h k =
-    texts-first slices default h ∙ ap (λ rest. (get_or slices 0 default).now ∷ rest) (texts-first (rest_of slices) default' k)
+texts_second slices default default' h k =
+    texts_first slices default h ∙ ap (λ rest. (get_or slices 0 default).now ∷ rest) (texts_first (rest_of slices) default' k)
 
 pub at_none : (slices : List (Bor (List ℕ))) (number : ℕ) → length slices < 1 → number ≡ 1 → IsRefusedAt IsSchedule 0 (texts slices) number
 at_none slices number h e =
@@ -124,7 +124,7 @@ at_none slices number h e =
 
 pub at_first : (slices : List (Bor (List ℕ))) (default : Bor (List ℕ)) (number : ℕ) → 1 ≤ length slices → number ≡ 1
     → ((name : List ℕ) (version : ℕ) → IsSchemaLine name version (get_or slices 0 default).now → ⊥) → IsRefusedAt IsSchedule 0 (texts slices) number
-at_first slices default number h e none = subst (λ lines. IsRefusedAt IsSchedule 0 lines number) (sym (texts-first slices default h))
+at_first slices default number h e none = subst (λ lines. IsRefusedAt IsSchedule 0 lines number) (sym (texts_first slices default h))
     (_, refused_first _ (texts (rest_of slices)) none, omega arith)
 
 pub at_alone : (slices : List (Bor (List ℕ))) (default : Bor (List ℕ)) (number : ℕ) (name : List ℕ) (version : ℕ) → 1 ≤ length slices
@@ -132,13 +132,13 @@ pub at_alone : (slices : List (Bor (List ℕ))) (default : Bor (List ℕ)) (numb
 at_alone slices default number name version h short e schema =
     let none : texts (rest_of slices) ≡ [] = nil_from_length (texts (rest_of slices)) (omega (arith, length-map (rest_of slices) (λ (slice : Bor (List ℕ)). slice.now))) in
     subst (λ lines. IsRefusedAt IsSchedule 0 lines number)
-    (sym (texts-first slices default h ∙ ap (λ rest. (get_or slices 0 default).now ∷ rest) none)) (0, refused_alone name version _ schema, omega arith)
+    (sym (texts_first slices default h ∙ ap (λ rest. (get_or slices 0 default).now ∷ rest) none)) (0, refused_alone name version _ schema, omega arith)
 
 pub at_second : (slices : List (Bor (List ℕ))) (default default' : Bor (List ℕ)) (number : ℕ) (name : List ℕ) (version : ℕ) → 1 ≤ length slices
     → 1 ≤ length (rest_of slices) → number ≡ 2 → IsSchemaLine name version (get_or slices 0 default).now
     → (get_or (rest_of slices) 0 default').now ≢ codes "--" → IsRefusedAt IsSchedule 0 (texts slices) number
 at_second slices default default' number name version h k e schema other =
-    subst (λ lines. IsRefusedAt IsSchedule 0 lines number) (sym (texts-second slices default default' h k))
+    subst (λ lines. IsRefusedAt IsSchedule 0 lines number) (sym (texts_second slices default default' h k))
     (_, refused_second name version _ _ (texts (rest_of (rest_of slices))) schema other, omega arith)
 
 pub at_events : (slices : List (Bor (List ℕ))) (default default' : Bor (List ℕ)) (number : ℕ) (name : List ℕ) (version : ℕ) → 1 ≤ length slices
@@ -146,5 +146,5 @@ pub at_events : (slices : List (Bor (List ℕ))) (default default' : Bor (List �
     → IsRefusedAt AreEvents 2 (texts (rest_of (rest_of slices))) number → IsRefusedAt IsSchedule 0 (texts slices) number
 at_events slices default default' number name version h k schema dashes bad =
     subst (λ lines. IsRefusedAt IsSchedule 0 lines number)
-    (sym (texts-second slices default default' h k ∙ ap (λ second. (get_or slices 0 default).now ∷ second ∷ texts (rest_of (rest_of slices))) dashes))
+    (sym (texts_second slices default default' h k ∙ ap (λ second. (get_or slices 0 default).now ∷ second ∷ texts (rest_of (rest_of slices))) dashes))
     (bad.0, refused_events name version _ (texts (rest_of (rest_of slices))) bad.0 schema bad.1, omega (arith, bad.2))

@@ -17,30 +17,30 @@ use Rattle.rpc_tool.specs.Replayed.{last_world, IsReplayed, IsReported, IsAsked,
 use Rattle.rpc_tool.specs.Kept.{awaited_of}
 use Rattle.rpc_tool.specs.Stands.{labels_of, Stands, Tells}
 use Rattle.std.proofs.lemmas.List.{append_cancel_left}
-use Rattle.rpc_tool.proofs.Same.{same-message}
-use Rattle.rpc_tool.proofs.Standing.{whole-few, given-whole, whole-given, client-front, server-front, opened, served, came-length}
+use Rattle.rpc_tool.proofs.Same.{same_message}
+use Rattle.rpc_tool.proofs.Standing.{whole_few, given_whole, whole_given, client_front, server_front, opened, served, came_length}
 use Rattle.rpc_tool.specs.Showing.{IsShownBy, AreReplies, dispatched, texts_of}
 
-pub replies-of : (awaited : Option (List ℕ)) (bytes : List ℕ) (text : Option (Bor (List ℕ)))
+pub replies_of : (awaited : Option (List ℕ)) (bytes : List ℕ) (text : Option (Bor (List ℕ)))
     → MatchOption text ((t : List ℕ) → IsGivenText awaited bytes t → ⊥) (λ t. IsGivenText awaited bytes t.now) → AreReplies awaited bytes (texts_of text)
-replies-of awaited bytes None none = none
-replies-of awaited bytes (Some text) found = found
+replies_of awaited bytes None none = none
+replies_of awaited bytes (Some text) found = found
 
 joined : (old m a b c d : List ℕ) → ((((old ++ m) ++ a) ++ b) ++ c) ++ d ≡ old ++ (m ++ (a ++ (b ++ (c ++ d))))
 joined old m a b c d = simp append_assoc refl
 
-pub closing-joined : (s : Shown) (old made client server up down : List ℕ) → made ≡ old ++ flat_map (dispatch_lines s) s.made
+pub closing_joined : (s : Shown) (old made client server up down : List ℕ) → made ≡ old ++ flat_map (dispatch_lines s) s.made
     → client ≡ made ++ line (codes "client " ++ end_text s.client) → server ≡ client ++ line (codes "server " ++ end_text s.server)
     → up ≡ server ++ moved_line (codes "up") s.up_moved s.up_put → down ≡ up ++ moved_line (codes "down") s.down_moved s.down_put
     → down ≡ old ++ closing_lines s
 unfolding closing_lines
-closing-joined s old made client server up down a b c d e =
+closing_joined s old made client server up down a b c d e =
     rw (e, d, c, b, a) (joined old (flat_map (dispatch_lines s) s.made) (line (codes "client " ++ end_text s.client)) (line (codes "server " ++ end_text s.server))
     (moved_line (codes "up") s.up_moved s.up_put) (moved_line (codes "down") s.down_moved s.down_put))
 
-pub dispatched-some : (p : Pair) (label old first second : List ℕ) (replies : List (List ℕ)) → p.client.label ≡ Some label
+pub dispatched_some : (p : Pair) (label old first second : List ℕ) (replies : List (List ℕ)) → p.client.label ≡ Some label
     → first ≡ old ++ dispatch_line label p.name p.version → second ≡ first ++ reply_line replies → second ≡ old ++ dispatched p replies
-dispatched-some p label old first second replies some a b =
+dispatched_some p label old first second replies some a b =
     let lines = dispatch_line label p.name p.version in
     b ∙ (ap (λ s. s ++ reply_line replies) a ∙ (append_assoc old lines (reply_line replies)
     ∙ ap (λ s. old ++ s) (sym (append-nil (lines ++ reply_line replies))
@@ -48,9 +48,9 @@ dispatched-some p label old first second replies some a b =
 
 -- ---- what is shown of a pair that stands for a world
 
-shown-same : (s t : Shown) → s.name ≡ t.name → s.version ≡ t.version → s.made ≡ t.made → s.replies ≡ t.replies → s.client ≡ t.client → s.server ≡ t.server
+shown_same : (s t : Shown) → s.name ≡ t.name → s.version ≡ t.version → s.made ≡ t.made → s.replies ≡ t.replies → s.client ≡ t.client → s.server ≡ t.server
     → s.up_moved ≡ t.up_moved → s.up_put ≡ t.up_put → s.down_moved ≡ t.down_moved → s.down_put ≡ t.down_put → s ≡ t
-shown-same s t a b c d e f g h i j = λ k. record {
+shown_same s t a b c d e f g h i j = λ k. record {
   name = a k;
   version = b k;
   made = c k;
@@ -64,38 +64,38 @@ shown-same s t a b c d e f g h i j = λ k. record {
 }
 
 -- the end of a front is as open as its header has come
-end-is : (awaited : Option (List ℕ)) (bytes : List ℕ) (state : EndState) → IsFront awaited bytes → IsEndState awaited bytes state
+end_is : (awaited : Option (List ℕ)) (bytes : List ℕ) (state : EndState) → IsFront awaited bytes → IsEndState awaited bytes state
     → state ≡ end_state (nat_le (length header) (length bytes))
-end-is awaited bytes Closed front closed = absurd (closed front)
-end-is awaited bytes Opening front opening = rw (lt-leb (length header) (length bytes) opening.1) refl
-end-is awaited bytes Open front open_ = rw (le-leb (length header) (length bytes) open_.1) refl
+end_is awaited bytes Closed front closed = absurd (closed front)
+end_is awaited bytes Opening front opening = rw (lt-leb (length header) (length bytes) opening.1) refl
+end_is awaited bytes Open front open_ = rw (le-leb (length header) (length bytes) open_.1) refl
 
 nothing : (texts : List (List ℕ)) → ((text : List ℕ) (more : List (List ℕ)) → texts ≡ text ∷ more → ⊥) → [] ≡ texts
 nothing [] none = refl
 nothing (text ∷ more) none = absurd (none text more refl)
 
-replies-are : (label : Option (List ℕ)) (bytes : List ℕ) (downs replies : List (List ℕ)) (moved : ℕ) → All IsText downs
+replies_are : (label : Option (List ℕ)) (bytes : List ℕ) (downs replies : List (List ℕ)) (moved : ℕ) → All IsText downs
     → length downs ≤ length (labels_of label) → moved ≤ length (header ++ flat_map response downs) → bytes ≡ take moved (header ++ flat_map response downs)
     → AreReplies (awaited_of label) bytes replies → replies ≡ whole response downs (moved - length header)
-replies-are None bytes downs [] moved texts few within came none =
-    nothing (whole response downs (moved - length header)) (λ text more is. absurd (let short = whole-few response downs (moved - length header) in let long = ap length is in omega arith))
-replies-are (Some label) bytes downs [] moved texts few within came none =
-    nothing (whole response downs (moved - length header)) (λ text more is. none text (whole-given response_lead bytes text more downs moved texts few within came is))
-replies-are None bytes downs (text ∷ []) moved texts few within came given = absurd given
-replies-are (Some label) bytes downs (text ∷ []) moved texts few within came given =
-    sym (given-whole response_lead bytes text downs moved texts few within came given)
-replies-are label bytes downs (text ∷ other ∷ more) moved texts few within came many = absurd many
+replies_are None bytes downs [] moved texts few within came none =
+    nothing (whole response downs (moved - length header)) (λ text more is. absurd (let short = whole_few response downs (moved - length header) in let long = ap length is in omega arith))
+replies_are (Some label) bytes downs [] moved texts few within came none =
+    nothing (whole response downs (moved - length header)) (λ text more is. none text (whole_given response_lead bytes text more downs moved texts few within came is))
+replies_are None bytes downs (text ∷ []) moved texts few within came given = absurd given
+replies_are (Some label) bytes downs (text ∷ []) moved texts few within came given =
+    sym (given_whole response_lead bytes text downs moved texts few within came given)
+replies_are label bytes downs (text ∷ other ∷ more) moved texts few within came many = absurd many
 
-pub shown-is : (p : Pair) (w : World) (us ug ds dg : Option (List ℕ)) (s : Shown) → Stands p w us ug ds dg → IsShownBy p s → s ≡ shown_of w
-shown-is p w us ug ds dg s stands shown = shown-same s (shown_of w)
+pub shown_is : (p : Pair) (w : World) (us ug ds dg : Option (List ℕ)) (s : Shown) → Stands p w us ug ds dg → IsShownBy p s → s ≡ shown_of w
+shown_is p w us ug ds dg s stands shown = shown_same s (shown_of w)
     (shown.name ∙ sym stands.name) (shown.version ∙ sym stands.version) (shown.made ∙ sym stands.made)
     (let turn = stands.in_turn in let asked = stands.asked in let made = ap length stands.made in
-    replies-are p.client.label p.client.inbox.bytes.items w.downs s.replies w.down_moved stands.responses (omega arith) stands.down.within stands.down.came
+    replies_are p.client.label p.client.inbox.bytes.items w.downs s.replies w.down_moved stands.responses (omega arith) stands.down.within stands.down.came
     (subst (λ awaited. AreReplies awaited p.client.inbox.bytes.items s.replies) p.client.awaits shown.replies))
-    (end-is _ _ s.client (client-front p w us ug ds dg stands) shown.client ∙ ap end_state (opened p w us ug ds dg stands))
-    (end-is _ _ s.server (server-front p w us ug ds dg stands) shown.server ∙ ap end_state (served p w us ug ds dg stands))
-    (shown.up_moved ∙ came-length _ _ _ _ _ _ stands.up) (shown.up_put ∙ stands.up.put_all)
-    (shown.down_moved ∙ came-length _ _ _ _ _ _ stands.down) (shown.down_put ∙ stands.down.put_all)
+    (end_is _ _ s.client (client_front p w us ug ds dg stands) shown.client ∙ ap end_state (opened p w us ug ds dg stands))
+    (end_is _ _ s.server (server_front p w us ug ds dg stands) shown.server ∙ ap end_state (served p w us ug ds dg stands))
+    (shown.up_moved ∙ came_length _ _ _ _ _ _ stands.up) (shown.up_put ∙ stands.up.put_all)
+    (shown.down_moved ∙ came_length _ _ _ _ _ _ stands.down) (shown.down_put ∙ stands.down.put_all)
 
 -- ---- the report
 
@@ -108,7 +108,7 @@ replayed p s events shown lines report us ug ds dg all last is_shown closed =
     let answered : lines ≡ answer_lines 3 (answers_of (first_world s.name s.version) s.events) = last.1 ∙ ap (λ e. answer_lines 3 (answers_of (first_world s.name s.version) e)) all in
     record {
       text = closed ∙ (ap (λ l. l ++ closing_lines shown) answered
-          ∙ ap (λ t. answer_lines 3 (answers_of (first_world s.name s.version) s.events) ++ closing_lines t) (shown-is p (last_world s) us ug ds dg shown stands is_shown));
+          ∙ ap (λ t. answer_lines 3 (answers_of (first_world s.name s.version) s.events) ++ closing_lines t) (shown_is p (last_world s) us ug ds dg shown stands is_shown));
       up_told = stands.up.told_sent;
       up_came = stands.up.told_given ∙ ap (λ b. Some b) stands.up.came;
       down_told = stands.down.told_sent;
@@ -116,35 +116,35 @@ replayed p s events shown lines report us ug ds dg all last is_shown closed =
     }
 
 -- over any wires that tell their bytes
-seen-made : (label : Option (List ℕ)) (events : List Event) → IsAsked label events → All (Contains (filter_map asked_label events)) (labels_of label)
-seen-made None events asked k d within = absurd (omega arith)
-seen-made (Some label) events asked zero d within = asked.1
-seen-made (Some label) events asked (suc k) d within = absurd (omega arith)
+seen_made : (label : Option (List ℕ)) (events : List Event) → IsAsked label events → All (Contains (filter_map asked_label events)) (labels_of label)
+seen_made None events asked k d within = absurd (omega arith)
+seen_made (Some label) events asked zero d within = asked.1
+seen_made (Some label) events asked (suc k) d within = absurd (omega arith)
 
-awaited-same : (label : Option (List ℕ)) → awaited_of label ≡ awaited_with (labels_of label)
-awaited-same None = refl
-awaited-same (Some label) = refl
+awaited_same : (label : Option (List ℕ)) → awaited_of label ≡ awaited_with (labels_of label)
+awaited_same None = refl
+awaited_same (Some label) = refl
 
 contained : (t text : List ℕ) → Contains (t ∷ []) text → t ≡ text
 contained t text (zero, within, is) = is
 contained t text (suc k, within, is) = absurd (omega arith)
 
 -- bytes begin with at most one message of a lead
-one-text : (lead bytes a b : List ℕ) → IsText a → IsText b → BeginsWith bytes (header ++ message lead a) → BeginsWith bytes (header ++ message lead b) → a ≡ b
-one-text lead bytes a b one other (x, first) (y, second) =
+one_text : (lead bytes a b : List ℕ) → IsText a → IsText b → BeginsWith bytes (header ++ message lead a) → BeginsWith bytes (header ++ message lead b) → a ≡ b
+one_text lead bytes a b one other (x, first) (y, second) =
     let both : header ++ (message lead a ++ x) ≡ header ++ (message lead b ++ y) =
     sym (append_assoc header (message lead a) x) ∙ (sym first ∙ (second ∙ append_assoc header (message lead b) y)) in
-    (same-message lead a b x y one.1 other.1 (append_cancel_left header (message lead a ++ x) (message lead b ++ y) both)).0
+    (same_message lead a b x y one.1 other.1 (append_cancel_left header (message lead a ++ x) (message lead b ++ y) both)).0
 
-seen-reply : (label : Option (List ℕ)) (bytes text : List ℕ) (replies : List (List ℕ)) → AreReplies (awaited_of label) bytes replies
+seen_reply : (label : Option (List ℕ)) (bytes text : List ℕ) (replies : List (List ℕ)) → AreReplies (awaited_of label) bytes replies
     → (labels_of label ≢ []) × Contains replies text ↔ (labels_of label ≢ []) × IsText text × BeginsWith bytes (header ++ message response_lead text)
-seen-reply None bytes text replies are = (λ h. absurd (h.0 refl), λ h. absurd (h.0 refl))
-seen-reply (Some label) bytes text [] none = (λ h. absurd (omega (arith, h.1.1)), λ h. absurd (none text (h.1, h.2)))
-seen-reply (Some label) bytes text (t ∷ []) given = (
+seen_reply None bytes text replies are = (λ h. absurd (h.0 refl), λ h. absurd (h.0 refl))
+seen_reply (Some label) bytes text [] none = (λ h. absurd (omega (arith, h.1.1)), λ h. absurd (none text (h.1, h.2)))
+seen_reply (Some label) bytes text (t ∷ []) given = (
   λ h. let same : t ≡ text = contained t text h.1 in (h.0, subst (λ s. IsText s) same given.0, subst (λ s. BeginsWith bytes (header ++ message response_lead s)) same given.1),
-  λ h. (h.0, (0, omega arith, one-text response_lead bytes t text given.0 h.1 given.1 h.2)),
+  λ h. (h.0, (0, omega arith, one_text response_lead bytes t text given.0 h.1 given.1 h.2)),
 )
-seen-reply (Some label) bytes text (t ∷ u ∷ more) many = absurd many
+seen_reply (Some label) bytes text (t ∷ u ∷ more) many = absurd many
 
 pub reported : (p : Pair) (s : Schedule) (shown : Shown) (lines report : List ℕ) (us ug ds dg : Option (List ℕ)) → Tells p us ug ds dg
     → p.name ≡ s.name → p.version ≡ s.version → IsAsked p.client.label s.events → AreAnswers lines (length s.events)
@@ -165,12 +165,12 @@ reported p s shown lines report us ug ds dg tells name version asked answers is_
   seen = record {
     name = is_shown.name ∙ name;
     version = is_shown.version ∙ version;
-    made = subst (λ labels. All (Contains (filter_map asked_label s.events)) labels) (sym is_shown.made) (seen-made p.client.label s.events asked);
+    made = subst (λ labels. All (Contains (filter_map asked_label s.events)) labels) (sym is_shown.made) (seen_made p.client.label s.events asked);
     reply = λ text. subst (λ labels. (labels ≢ []) × Contains shown.replies text ↔ (labels ≢ []) × IsText text × BeginsWith p.client.inbox.bytes.items (header ++ message response_lead text))
-        (sym is_shown.made) (seen-reply p.client.label p.client.inbox.bytes.items text shown.replies
+        (sym is_shown.made) (seen_reply p.client.label p.client.inbox.bytes.items text shown.replies
         (subst (λ awaited. AreReplies awaited p.client.inbox.bytes.items shown.replies) p.client.awaits is_shown.replies));
     client = subst (λ awaited. IsEndState awaited p.client.inbox.bytes.items shown.client)
-        (p.client.awaits ∙ (awaited-same p.client.label ∙ ap awaited_with (sym is_shown.made))) is_shown.client;
+        (p.client.awaits ∙ (awaited_same p.client.label ∙ ap awaited_with (sym is_shown.made))) is_shown.client;
     server = subst (λ awaited. IsEndState awaited p.server.inbox.bytes.items shown.server)
         (p.awaits ∙ ap (λ l. Some l) (rw (name, version) refl)) is_shown.server;
     up_moved = is_shown.up_moved;

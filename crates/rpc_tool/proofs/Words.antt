@@ -37,8 +37,8 @@ HasNoBlank-from_test word h = All-weaker (λ byte. not (nat_eq byte 32) ≡ true
 letter_not_blank : (byte : ℕ) → is_ascii_lowercase byte ≡ true → nat_eq byte 32 ≡ false
 letter_not_blank byte h = search rules
 
-pub HasNoBlank-letters : (word : List ℕ) → AreLetters word → HasNoBlank word
-HasNoBlank-letters word h = All-weaker (λ byte. is_ascii_lowercase byte ≡ true) (λ byte. nat_eq byte 32 ≡ false) letter_not_blank word h
+pub HasNoBlank_letters : (word : List ℕ) → AreLetters word → HasNoBlank word
+HasNoBlank_letters word h = All-weaker (λ byte. is_ascii_lowercase byte ≡ true) (λ byte. nat_eq byte 32 ≡ false) letter_not_blank word h
 
 digit_not_blank : (digit : ℕ) → nat_eq (48 + digit) 32 ≡ false
 digit_not_blank digit = search rules
@@ -50,15 +50,15 @@ HasNoBlank-decimal n small = decimal_by_steps (λ m digits. HasNoBlank digits)
     n small
 
 pub HasNoBlank-quoted : (text : List ℕ) → AreLetters text → HasNoBlank (quoted text)
-HasNoBlank-quoted text h = All-cons (λ byte. nat_eq byte 32 ≡ false) 34 (text ++ 34 ∷ []) refl (All-push (λ byte. nat_eq byte 32 ≡ false) text 34 (HasNoBlank-letters text h) refl)
+HasNoBlank-quoted text h = All-cons (λ byte. nat_eq byte 32 ≡ false) 34 (text ++ 34 ∷ []) refl (All-push (λ byte. nat_eq byte 32 ≡ false) text 34 (HasNoBlank_letters text h) refl)
 
 -- ---- quotes
 
-pub middle-quoted : (text : List ℕ) → take (length (quoted text) - 1 - 1) (drop 1 (quoted text)) ≡ text
-middle-quoted text = take_at text (34 ∷ []) (suc (length (text ++ 34 ∷ [])) - 1 - 1) (omega (arith, length_push text 34))
+pub middle_quoted : (text : List ℕ) → take (length (quoted text) - 1 - 1) (drop 1 (quoted text)) ≡ text
+middle_quoted text = take_at text (34 ∷ []) (suc (length (text ++ 34 ∷ [])) - 1 - 1) (omega (arith, length_push text 34))
 
-pub last-quoted : (text : List ℕ) → get_or (quoted text) (length (quoted text) - 1) 0 ≡ 34
-last-quoted text = get_or_at (34 ∷ text) 34 [] 0 (suc (length (text ++ 34 ∷ [])) - 1) (omega (arith, length_push text 34))
+pub last_quoted : (text : List ℕ) → get_or (quoted text) (length (quoted text) - 1) 0 ≡ 34
+last_quoted text = get_or_at (34 ∷ text) 34 [] 0 (suc (length (text ++ 34 ∷ [])) - 1) (omega (arith, length_push text 34))
 
 -- ---- the words of an event's line
 
@@ -74,12 +74,12 @@ arguments_no_blank : (event : Event) (ws : List (List ℕ)) → AreArguments eve
 arguments_no_blank (Ask label name version text) ws h = (
   HasNoBlank-from_test (codes "ask") refl,
   subst (Each HasNoBlank) (sym h.4)
-      (HasNoBlank-letters label h.0.0, (HasNoBlank-letters name h.1.0, (HasNoBlank-decimal version (omega arith), (HasNoBlank-quoted text h.3.0, tt)))),
+      (HasNoBlank_letters label h.0.0, (HasNoBlank_letters name h.1.0, (HasNoBlank-decimal version (omega arith), (HasNoBlank-quoted text h.3.0, tt)))),
 )
 arguments_no_blank (Reply label text) ws h = (
   HasNoBlank-from_test (codes "reply") refl,
   subst (Each HasNoBlank) (sym h.2)
-      (HasNoBlank-letters label h.0.0, (HasNoBlank-quoted text h.1.0, tt)),
+      (HasNoBlank_letters label h.0.0, (HasNoBlank-quoted text h.1.0, tt)),
 )
 arguments_no_blank (Up count by) ws h = (HasNoBlank-from_test (codes "up") refl, movement_no_blank count by ws h)
 arguments_no_blank (Down count by) ws h = (HasNoBlank-from_test (codes "down") refl, movement_no_blank count by ws h)
@@ -172,7 +172,7 @@ schema_no_blank : (name : List ℕ) (version : ℕ) → IsName name → version 
 schema_no_blank name version named small = (
   HasNoBlank-from_test (codes "plain") refl,
   (
-    HasNoBlank-letters name named.0,
+    HasNoBlank_letters name named.0,
     (
       HasNoBlank-decimal version (omega arith),
       (

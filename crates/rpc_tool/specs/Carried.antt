@@ -6,7 +6,8 @@ use Rattle.rpc_tool.specs.declared.inbox.Inbox.{Inbox}
 abbrev pub HoldsGiven : {W : Type 0} → (W → Option (List ℕ)) → W → Inbox → Type 0
 HoldsGiven given wire inbox = given wire ≡ Some inbox.bytes.items
 
--- An honest wire tells a stream that was put, of which the inbox holds what was given, and so many more bytes are in flight.
+-- An honest wire tells a stream that was put, of which the inbox holds what was given, and so many
+-- more bytes are in flight.
 pub record HasMore {W : Type 0} (is_honest : W → Type 0) (sent given : W → Option (List ℕ))
     (wire : W) (inbox : Inbox) (count : ℕ) (stream : List ℕ) : Type 0 where
   pub honest : is_honest wire

@@ -10,11 +10,13 @@ data_length text_length = length (written_nat text_length) + text_length
 
 -- the length of the body of a message of a lead
 abbrev pub body_length : List ℕ → ℕ → ℕ
-body_length lead text_length = length lead + (length (written_nat (data_length text_length)) + data_length text_length)
+body_length lead text_length =
+    length lead + (length (written_nat (data_length text_length)) + data_length text_length)
 
 unfoldable pub message_head : List ℕ → ℕ → List ℕ
 message_head lead text_length =
-    little_endian 8 (body_length lead text_length) ++ (lead ++ (written_nat (data_length text_length) ++ written_nat text_length))
+    little_endian 8 (body_length lead text_length)
+    ++ (lead ++ (written_nat (data_length text_length) ++ written_nat text_length))
 
 -- two lists agree as far as both go
 abbrev pub Agree : List ℕ → List ℕ → Type 0
@@ -25,7 +27,8 @@ Agree (x ∷ bytes) (y ∷ expected) = (x ≡ y) × Agree bytes expected
 -- what bytes have after what is expected of them, if they agree with it as far as both go
 abbrev pub IsPast : List ℕ → List ℕ → Option (Bor (List ℕ)) → Type 0
 IsPast bytes expected result =
-    MatchOption result (Agree bytes expected → ⊥) (λ rest. Agree bytes expected × (rest.now ≡ drop (length expected) bytes))
+    MatchOption result (Agree bytes expected → ⊥)
+    (λ rest. Agree bytes expected × (rest.now ≡ drop (length expected) bytes))
 
 -- some bytes begin a message of the lead with some text
 abbrev pub IsMessageFront : List ℕ → List ℕ → Type 0
@@ -42,6 +45,13 @@ pub record IsWholeOf (lead bytes : List ℕ) (text_length : ℕ) : Type 0 where
   pub agrees : Agree bytes (message_head lead text_length)
   pub came : length (message_head lead text_length) + text_length ≤ length bytes
   pub letters : AreLetters (take text_length (drop (length (message_head lead text_length)) bytes))
+
+-- the text of it, if they do
+abbrev pub FindsWhole : List ℕ → List ℕ → ℕ → Option (Bor (List ℕ)) → Type 0
+FindsWhole lead bytes text_length result =
+    MatchOption result (IsWholeOf lead bytes text_length → ⊥)
+    (λ text. IsWholeOf lead bytes text_length
+    × (text.now ≡ take text_length (drop (length (message_head lead text_length)) bytes)))
 
 -- some bytes begin with a message of the lead and a text
 abbrev pub IsMessageText : List ℕ → List ℕ → List ℕ → Type 0

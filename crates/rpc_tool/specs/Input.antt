@@ -16,6 +16,9 @@ abbrev pub at_line : ℕ → LineError → InputError
 at_line number line_error.OutOfForm = input.BadLine number
 at_line number line_error.OutOfMemory = input.OutOfMemory
 
--- Lines that stand below some others are refused at the line of a number, counted from 1 at the first of those others.
-abbrev pub IsRefusedAt : {A : Type 0} → (A → List (List ℕ) → Type 0) → ℕ → List (List ℕ) → ℕ → Type 0
-IsRefusedAt L before lines number = (left : ℕ) × IsRefused L lines left × (number + left ≡ before + length lines + 1)
+-- Lines that stand below some others are refused at the line of a number, counted from 1 at the
+-- first of those others.
+abbrev pub IsRefusedAt : {A : Type 0} → (A → List (List ℕ) → Type 0) → ℕ → List (List ℕ) → ℕ
+    → Type 0
+IsRefusedAt L before lines number =
+    (left : ℕ) × IsRefused L lines left × (number + left ≡ before + length lines + 1)

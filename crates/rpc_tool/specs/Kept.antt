@@ -10,4 +10,5 @@ awaited_of (Some label) = Some response_lead
 
 -- a server that awaits a query holds a whole one that it has not answered
 abbrev pub Waits : Bool → Option (List ℕ) → List ℕ → Type 0
-Waits answered awaited bytes = (answered ≡ false) × ((text : List ℕ) × IsGivenText awaited bytes text)
+Waits answered awaited bytes =
+    (answered ≡ false) × ((text : List ℕ) × IsGivenText awaited bytes text)

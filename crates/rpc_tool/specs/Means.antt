@@ -1,9 +1,10 @@
 -- What each status of a run means, whatever the command.
-use Rattle.std.specs.Prelude.{Option, Some, None, ◌≡◌, ◌<◌, ◌^◌, ◌↔◌, ℕ, List, [], take, codes, String, ◌⊎◌, IsSome, IsSomeAnd, IfSome, length, ⊤}
+use Rattle.std.specs.Prelude.{Option, Some, None, ◌≡◌, ◌<◌, ◌↔◌, ℕ, List, [], ◌++◌, take, codes, String, ◌⊎◌, IsSome, IsSomeAnd, IfSome, length, ⊤}
 use Rattle.std.specs.declared.alloc.Global.{Global}
 use Rattle.rpc_world.specs.declared.schedule.Schedule.{Schedule}
 use Rattle.rpc_world.specs.Input.{IsInput}
 use Rattle.rpc_world.specs.Report.{line}
+use Rattle.rpc_tool.specs.Limits.{most_input}
 use Rattle.rpc_tool.specs.Commands.{Names, IsNamed, IsDone, IsRefusal, MeetsWires}
 use Rattle.rpc_tool.specs.Replayed.{FreshOver, HonestOver, ReportedOver, ReplayedOver}
 use Rattle.rpc_tool.specs.declared.command.Command.{Command}
@@ -21,13 +22,9 @@ code_of WireFault = 5
 code_of OutOfMemory = 6
 code_of TooLong = 7
 
--- how many bytes of input a command takes
-abbrev pub most_input : ℕ
-most_input = 2 ^ 26
-
 abbrev pub usage_line : List ℕ
-usage_line =
-    line (codes "usage: rpc show SHAPE | write SHAPE | frames | menu NAME VERSIONS | replay | gen N")
+usage_line = line (codes "usage: "
+    ++ codes "rpc show SHAPE | write SHAPE | frames | menu NAME VERSIONS | replay | gen N")
 
 -- A text is a report of a schedule, by what two wires told before and tell now: over fresh wires it
 -- shows what they gave, and over honest ones it is the text of the replay.
@@ -77,8 +74,8 @@ IsReadWhole status = ⊥
 abbrev pub IsWholeCode : ℕ → Type 0
 IsWholeCode code = (status : Status) × IsReadWhole status × (code ≡ code_of status)
 
--- What the code of a run means. `left` is what its input had to give, where told; `Comes bytes` is that
--- these bytes came from it, and `Writes text` that exactly this text was put to the output.
+-- What the code of a run means. `left` is what its input had to give, where told; `Comes bytes` is
+-- that these bytes came from it, and `Writes text` that exactly this text was put to the output.
 pub record Means (Reports : Schedule → List ℕ → Type 0) (Comes : List ℕ → Type 0)
     (left : Option (List ℕ)) (Writes : List ℕ → Type 0) (words : List (String Global))
     (code : ℕ) : Type 0 where

@@ -8,6 +8,7 @@ use Rattle.rpc_world.specs.declared.schedule.Refusal.{Refusal}
 use Rattle.rpc_world.specs.declared.schedule.Schedule.{Schedule}
 use Rattle.rpc_world.specs.Stream.{header, response_lead, query_lead, message, IsText, BeginsWith}
 use Rattle.rpc_world.specs.World.{World, first_world, after, up_stream, down_stream}
+use Rattle.rpc_tool.specs.Limits.{first_event_line}
 use Rattle.rpc_world.specs.Report.{Shown, answer_lines, closing_lines, replay_text, IsEndState}
 
 -- nothing was put to the wires or given by them, and they tell it
@@ -32,8 +33,10 @@ pub record HonestOver {W : Type 0} (is_honest : W → Type 0) (sent given : W �
 abbrev pub last_world : Schedule → World
 last_world s = after (first_world s.name s.version) s.events
 
--- over honest wires: the report is the schedule's, and the wires have sent and given what the last world says
-pub record IsReplayed (s : Schedule) (report : List ℕ) (up_sent up_given down_sent down_given : Option (List ℕ)) : Type 0 where
+-- Over honest wires: the report is the schedule's, and the wires have sent and given what the last
+-- world says.
+pub record IsReplayed (s : Schedule) (report : List ℕ)
+    (up_sent up_given down_sent down_given : Option (List ℕ)) : Type 0 where
   pub text : report ≡ replay_text s
   pub up_told : up_sent ≡ Some (up_stream (last_world s))
   pub up_came : up_given ≡ Some (take (last_world s).up_moved (up_stream (last_world s)))
@@ -57,16 +60,21 @@ abbrev pub awaited_with : List (List ℕ) → Option (List ℕ)
 awaited_with [] = None
 awaited_with (label ∷ labels) = Some response_lead
 
--- Over any wires that told their bytes: what the closing lines show is what the wires gave, whatever it is.
-pub record IsSeen (s : Schedule) (shown : Shown) (up_sent up_given down_sent down_given : List ℕ) : Type 0 where
+-- Over any wires that told their bytes: what the closing lines show is what the wires gave, whatever
+-- it is.
+pub record IsSeen (s : Schedule) (shown : Shown)
+    (up_sent up_given down_sent down_given : List ℕ) : Type 0 where
   pub name : shown.name ≡ s.name
   pub version : shown.version ≡ s.version
   -- the dispatch is one that the schedule asks for
   pub made : All (Contains (filter_map asked_label s.events)) shown.made
-  -- `reply` shows a text exactly where there is a dispatch, and what the down wire gave begins with the header and the response with this text
+  -- `reply` shows a text exactly where there is a dispatch, and what the down wire gave begins with
+  -- the header and the response with this text
   pub reply : (text : List ℕ) → (shown.made ≢ []) × Contains shown.replies text
-      ↔ (shown.made ≢ []) × IsText text × BeginsWith down_given (header ++ message response_lead text)
-  -- an end is closed exactly where its wire gave what begins no stream of its peer, and opening where the header did not come whole
+      ↔ (shown.made ≢ []) × IsText text
+      × BeginsWith down_given (header ++ message response_lead text)
+  -- an end is closed exactly where its wire gave what begins no stream of its peer, and opening
+  -- where the header did not come whole
   pub client : IsEndState (awaited_with shown.made) down_given shown.client
   pub server : IsEndState (Some (query_lead s.name s.version)) up_given shown.server
   -- the numbers of bytes given and put
@@ -75,12 +83,14 @@ pub record IsSeen (s : Schedule) (shown : Shown) (up_sent up_given down_sent dow
   pub down_moved : shown.down_moved ≡ length down_given
   pub down_put : shown.down_put ≡ length down_sent
 
--- the report over any wires: a line for each refused event, in the order of the events, and the closing lines
-pub record IsReported (s : Schedule) (report : List ℕ) (up_sent up_given down_sent down_given : Option (List ℕ)) : Type 0 where
+-- The report over any wires: a line for each refused event, in the order of the events, and the
+-- closing lines.
+pub record IsReported (s : Schedule) (report : List ℕ)
+    (up_sent up_given down_sent down_given : Option (List ℕ)) : Type 0 where
   pub answers : List (Option Refusal)
   pub answered : length answers ≡ length s.events
   pub shown : Shown
-  pub text : report ≡ answer_lines 3 answers ++ closing_lines shown
+  pub text : report ≡ answer_lines first_event_line answers ++ closing_lines shown
   pub up_bytes : List ℕ
   pub up_came_bytes : List ℕ
   pub down_bytes : List ℕ
@@ -99,10 +109,11 @@ ReportedOver sent given up down s report =
 -- a client made its dispatch for an ask among some events, or made none
 abbrev pub IsAsked : Option (List ℕ) → List Event → Type 0
 IsAsked None events = Unit {0}
-IsAsked (Some label) events = (1 ≤ count_by is_ask events) × Contains (filter_map asked_label events) label
+IsAsked (Some label) events =
+    (1 ≤ count_by is_ask events) × Contains (filter_map asked_label events) label
 
 -- the lines of some answers, one for each of so many events
 pub record AreAnswers (report : List ℕ) (count : ℕ) : Type 0 where
   pub answers : List (Option Refusal)
   pub counted : length answers ≡ count
-  pub lines : report ≡ answer_lines 3 answers
+  pub lines : report ≡ answer_lines first_event_line answers

@@ -31,4 +31,6 @@ pub record IsShownBy (p : Pair) (s : Shown) : Type 0 where
 
 -- the lines of the dispatches of a pair, by the texts that they received
 abbrev pub dispatched : Pair → List (List ℕ) → List ℕ
-dispatched p replies = flat_map (λ label. dispatch_line label p.name p.version ++ reply_line replies) (labels_of p.client.label)
+dispatched p replies =
+    flat_map (λ label. dispatch_line label p.name p.version ++ reply_line replies)
+    (labels_of p.client.label)

@@ -3,6 +3,7 @@ ghost use Rattle.std.specs.Prelude.{Option, Some, None, Bool, true, false, [], �
 ghost use Rattle.bp_base.specs.Faults.{GoesOn};
 ghost use Rattle.bp_base.specs.Told.{Gains};
 ghost use Rattle.rpc_world.specs.Stream.{header, message, query_lead, response_lead, IsText};
+ghost use Rattle.rpc_tool.specs.Limits.{header_length, most_put, longest_lead, longest_name};
 ghost use Rattle.rpc_tool.specs.Kept.{awaited_of, Waits};
 ghost use Rattle.rpc_tool.specs.declared.failure.Failure.TheVariants as failure;
 
@@ -22,8 +23,8 @@ pub struct Client {
     /// How many bytes it put.
     pub put: usize,
     ghost awaits: { inbox.awaited ≡ awaited_of label },
-    ghost few: { label ≡ None → put ≡ 10 },
-    ghost short: { put ≤ 2000 },
+    ghost few: { label ≡ None → put ≡ header_length },
+    ghost short: { put ≤ most_put },
 }
 
 /// The answering end, which has one procedure.
@@ -32,8 +33,8 @@ pub struct Server {
     pub answered: bool,
     pub inbox: Inbox,
     pub put: usize,
-    ghost few: { answered ≡ false → put ≡ 10 },
-    ghost short: { put ≤ 2000 },
+    ghost few: { answered ≡ false → put ≡ header_length },
+    ghost short: { put ≤ most_put },
 }
 
 impl Client {
@@ -69,14 +70,15 @@ impl Client {
         up: &mut W,
     ) -> Result<(), Failure>
         requires first { self.old.label ≡ None }
-        requires lead { length lead.now ≤ 100 }
+        requires lead { length lead.now ≤ longest_lead }
         requires text { IsText text.now }
         ensures sent { OnOk result (Gains W.sent up.old up.new (message lead.now text.now)) }
         ensures given { W.given up.new ≡ W.given up.old }
         ensures wire { GoesOn W.faults W.honest up.old up.new (IsErrOf result failure.WireFault) }
         ensures label { OnOk result (self.new.label ≡ Some label) }
         ensures bytes { self.new.inbox.bytes ≡ self.old.inbox.bytes }
-        ensures put { OnOk result (self.new.put ≡ self.old.put + length (message lead.now text.now)) }
+        ensures put { OnOk result
+            (self.new.put ≡ self.old.put + length (message lead.now text.now)) }
     {
         let query = message(alloc, lead, text)?;
         let awaited = Blob::from_vec(Vec::from_slice(alloc, &RESPONSE_LEAD)?);
@@ -97,12 +99,14 @@ impl Server {
         version: u8,
         down: &mut W,
     ) -> Result<Server, Failure>
-        requires { length name.now ≤ 32 }
+        requires { length name.now ≤ longest_name }
         ensures sent { OnOk result (Gains W.sent down.old down.new header) }
         ensures given { W.given down.new ≡ W.given down.old }
-        ensures wire { GoesOn W.faults W.honest down.old down.new (IsErrOf result failure.WireFault) }
+        ensures wire { GoesOn W.faults W.honest down.old down.new
+            (IsErrOf result failure.WireFault) }
         ensures answered { IfOk result (λ server. server.answered ≡ false) }
-        ensures awaited { IfOk result (λ server. server.inbox.awaited ≡ Some (query_lead name.now version)) }
+        ensures awaited { IfOk result
+            (λ server. server.inbox.awaited ≡ Some (query_lead name.now version)) }
         ensures bytes { IfOk result (λ server. server.inbox.bytes.items ≡ []) }
         ensures put { IfOk result (λ server. server.put ≡ length header) }
     {
@@ -120,7 +124,8 @@ impl Server {
 
     /// Whether a query came whole and was not answered.
     pub fn is_waiting(&self) -> bool
-        ensures { IsTrue result ↔ Waits self.now.answered self.now.inbox.awaited self.now.inbox.bytes.items }
+        ensures { IsTrue result
+            ↔ Waits self.now.answered self.now.inbox.awaited self.now.inbox.bytes.items }
     {
         !self.answered && self.inbox.text().is_some()
     }
@@ -135,12 +140,15 @@ impl Server {
     ) -> Result<(), Failure>
         requires first { self.old.answered ≡ false }
         requires text { IsText text.now }
-        ensures sent { OnOk result (Gains W.sent down.old down.new (message response_lead text.now)) }
+        ensures sent { OnOk result
+            (Gains W.sent down.old down.new (message response_lead text.now)) }
         ensures given { W.given down.new ≡ W.given down.old }
-        ensures wire { GoesOn W.faults W.honest down.old down.new (IsErrOf result failure.WireFault) }
+        ensures wire { GoesOn W.faults W.honest down.old down.new
+            (IsErrOf result failure.WireFault) }
         ensures answered { OnOk result (self.new.answered ≡ true) }
         ensures inbox { self.new.inbox ≡ self.old.inbox }
-        ensures put { OnOk result (self.new.put ≡ self.old.put + length (message response_lead text.now)) }
+        ensures put { OnOk result
+            (self.new.put ≡ self.old.put + length (message response_lead text.now)) }
     {
         let response = message(alloc, &RESPONSE_LEAD, text)?;
         put(down, &response)?;

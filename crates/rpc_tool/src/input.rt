@@ -1,6 +1,7 @@
 //! Reading the text of a schedule.
 //!
-//! A text is cut into lines, and a line into words at its blanks. No word holds a blank, so that a line has one list of words.
+//! A text is cut into lines, and a line into words at its blanks. No word holds a blank, so that a
+//! line has one list of words.
 
 ghost use Rattle.std.specs.Prelude.{◌≡◌, ℕ, IfOk, IsErrOf};
 ghost use Rattle.rpc_world.specs.Input.{without_last_empty, IsInput, IsWellFormed, IsBadLine, IsSchedule, AreEvents, is_ask};
@@ -26,8 +27,8 @@ pub const FIRST_EVENT_LINE: u64 = 3;
 /// Why a text spells no schedule.
 #[derive(Debug, Clone, Copy, PartialEq, Eq)]
 pub enum InputError {
-    /// The first line, counted from 1, that no schedule has after the lines before it: the one past the last where a line is
-    /// missing.
+    /// The first line, counted from 1, that no schedule has after the lines before it: the one past
+    /// the last where a line is missing.
     BadLine { line: u64 },
     OutOfMemory,
 }
@@ -64,8 +65,8 @@ impl InputError {
     }
 }
 
-/// Reads a schedule: a schema's line, the line `--`, and the lines of the events. Each line ends with the byte 10, which the
-/// last may lack. A second ask is out of place, at its own line.
+/// Reads a schedule: a schema's line, the line `--`, and the lines of the events. Each line ends
+/// with the byte 10, which the last may lack. A second ask is out of place, at its own line.
 pub fn read_schedule(alloc: Global, text: &[u8]) -> Result<Schedule, InputError>
     ensures spelled { IfOk result (λ schedule. IsInput text.now schedule) }
     ensures formed { IfOk result (λ schedule. IsWellFormed schedule) }
@@ -87,7 +88,8 @@ fn without_last_empty<'a>(parts: &'a [&'a [u8]]) -> &'a [&'a [u8]]
 
 fn read_lines(alloc: Global, lines: &[&[u8]]) -> Result<Schedule, InputError>
     ensures spelled { IfOk result (λ schedule. IsSchedule schedule (texts lines.now)) }
-    ensures bad { (line : ℕ) → IsErrOf result (InputError.BadLine line) → IsRefusedAt IsSchedule 0 (texts lines.now) line }
+    ensures bad { (line : ℕ) → IsErrOf result (InputError.BadLine line)
+        → IsRefusedAt IsSchedule 0 (texts lines.now) line }
 {
     let [first, rest @ ..] = lines else {
         return Err(InputError::BadLine { line: 1 });
@@ -112,7 +114,8 @@ fn read_lines(alloc: Global, lines: &[&[u8]]) -> Result<Schedule, InputError>
 
 fn read_events(alloc: Global, lines: &[&[u8]]) -> Result<Listed<Event>, InputError>
     ensures spelled { IfOk result (λ events. AreEvents events (texts lines.now)) }
-    ensures bad { (line : ℕ) → IsErrOf result (InputError.BadLine line) → IsRefusedAt AreEvents 2 (texts lines.now) line }
+    ensures bad { (line : ℕ) → IsErrOf result (InputError.BadLine line)
+        → IsRefusedAt AreEvents 2 (texts lines.now) line }
 {
     let mut events = Vec::with_capacity(alloc, lines.len())?;
     let mut asked = false;

@@ -2,6 +2,7 @@
 ghost use Rattle.std.specs.Prelude.{◌≡◌, ◌+◌, ◌≤◌, ◌++◌, length, IfOk, OnOk};
 ghost use Rattle.bp_num.specs.Forms.{written_nat};
 ghost use Rattle.rpc_world.specs.Stream.{message, query_lead};
+ghost use Rattle.rpc_tool.specs.Limits.{longest_name, longest_lead, longest_text, longest_data, longest_body, longest_frame, greatest_nat0};
 ghost use Rattle.rpc_tool.specs.Heads.{IsPast, message_head, data_length, body_length};
 
 use bp_num::{nat0_len, write_nat0};
@@ -16,9 +17,9 @@ pub const RESPONSE_LEAD: [u8; 3] = [2, 0, 0];
 
 /// How a Query begins: its constructor, the name, the version and the id 0.
 pub fn query_lead(alloc: Global, name: &[u8], version: u8) -> Result<Vec<u8>, OutOfMemory>
-    requires { length name.now ≤ 32 }
+    requires { length name.now ≤ longest_name }
     ensures bytes { IfOk result (λ lead. lead.items ≡ query_lead name.now version) }
-    ensures short { IfOk result (λ lead. length lead.items ≤ 100) }
+    ensures short { IfOk result (λ lead. length lead.items ≤ longest_lead) }
 {
     let mut lead = Vec::with_capacity(alloc, name.len() + 4)?;
     lead.push(1)?;
@@ -30,10 +31,10 @@ pub fn query_lead(alloc: Global, name: &[u8], version: u8) -> Result<Vec<u8>, Ou
 
 /// The frame of a message of the lead whose data spells the text.
 pub fn message(alloc: Global, lead: &[u8], text: &[u8]) -> Result<Vec<u8>, OutOfMemory>
-    requires lead { length lead.now ≤ 100 }
-    requires text { length text.now ≤ 1000 }
+    requires lead { length lead.now ≤ longest_lead }
+    requires text { length text.now ≤ longest_text }
     ensures bytes { IfOk result (λ frame. frame.items ≡ message lead.now text.now) }
-    ensures short { IfOk result (λ frame. length frame.items ≤ 1126) }
+    ensures short { IfOk result (λ frame. length frame.items ≤ longest_frame) }
 {
     let head = Head {
         lead,
@@ -51,22 +52,22 @@ pub struct Head<'a> {
     /// How the body begins.
     pub lead: &'a [u8],
     pub text_len: usize,
-    ghost short_lead: { length lead.now ≤ 100 },
-    ghost short_text: { text_len ≤ 1000 },
+    ghost short_lead: { length lead.now ≤ longest_lead },
+    ghost short_text: { text_len ≤ longest_text },
 }
 
 impl<'a> Head<'a> {
     /// The length of the data, which spells the text.
     fn data_len(&self) -> usize
         ensures value { result ≡ data_length self.now.text_len }
-        ensures bound { result ≤ 1009 }
+        ensures bound { result ≤ longest_data }
     {
         nat0_len(self.text_len as u64) + self.text_len
     }
 
     fn body_len(&self) -> usize
         ensures value { result ≡ body_length self.now.lead.now self.now.text_len }
-        ensures bound { result ≤ 1118 }
+        ensures bound { result ≤ longest_body }
     {
         let data_len = self.data_len();
         self.lead.len() + nat0_len(data_len as u64) + data_len
@@ -74,14 +75,17 @@ impl<'a> Head<'a> {
 
     /// How many bytes the whole frame has, with the text.
     pub fn frame_len(&self) -> usize
-        ensures value { result ≡ length (message_head self.now.lead.now self.now.text_len) + self.now.text_len }
-        ensures bound { result ≤ 1126 }
+        ensures value { result
+            ≡ length (message_head self.now.lead.now self.now.text_len) + self.now.text_len }
+        ensures bound { result ≤ longest_frame }
     {
         8 + self.body_len()
     }
 
+    /// Appends the head.
     pub fn write(&self, out: &mut Vec<u8>) -> Result<(), OutOfMemory>
-        ensures { OnOk result (out.new.items ≡ out.old.items ++ message_head self.now.lead.now self.now.text_len) }
+        ensures { OnOk result (out.new.items
+            ≡ out.old.items ++ message_head self.now.lead.now self.now.text_len) }
     {
         out.extend_from_slice(&(self.body_len() as u64).to_le_bytes())?;
         out.extend_from_slice(self.lead)?;
@@ -114,7 +118,7 @@ pub fn past<'a>(bytes: &'a [u8], expected: &[u8]) -> Option<&'a [u8]>
 }
 
 fn past_nat0(bytes: &[u8], n: usize) -> Option<&[u8]>
-    requires { n ≤ 2000 }
+    requires { n ≤ greatest_nat0 }
     ensures { IsPast bytes.now (written_nat n) result }
 {
     let mut form = [0; 9];
@@ -123,7 +127,7 @@ fn past_nat0(bytes: &[u8], n: usize) -> Option<&[u8]>
 }
 
 fn push_nat0(out: &mut Vec<u8>, n: usize) -> Result<(), OutOfMemory>
-    requires { n ≤ 2000 }
+    requires { n ≤ greatest_nat0 }
     ensures { OnOk result (out.new.items ≡ out.old.items ++ written_nat n) }
 {
     let mut form = [0; 9];

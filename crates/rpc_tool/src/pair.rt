@@ -7,6 +7,7 @@ ghost use Rattle.rpc_world.specs.declared.schedule.Event.TheVariants as event;
 ghost use Rattle.rpc_world.specs.Stream.{query_lead, IsText};
 ghost use Rattle.rpc_world.specs.World.{World, first_world, effect, moved_of};
 ghost use Rattle.rpc_world.specs.Input.{IsName, IsEvent};
+ghost use Rattle.rpc_tool.specs.Limits.{longest_name};
 ghost use Rattle.rpc_tool.specs.declared.failure.Failure.TheVariants as failure;
 
 use crate::carry::carry;
@@ -25,7 +26,7 @@ pub struct Pair {
     pub version: u8,
     pub client: Client,
     pub server: Server,
-    ghost short: { length name ≤ 32 },
+    ghost short: { length name ≤ longest_name },
     ghost awaits: { server.inbox.awaited ≡ Some (query_lead name version) },
 }
 
@@ -41,7 +42,7 @@ impl Pair {
         up: &mut W,
         down: &mut W,
     ) -> Result<Pair, Failure>
-        requires { length name ≤ 32 }
+        requires { length name ≤ longest_name }
         ensures wires { BothGoOn W.faults W.honest up.old up.new down.old down.new
             (IsErrOf result failure.WireFault) }
         ensures schema { IfOk result (λ pair. (pair.name ≡ name) × (pair.version ≡ version)
@@ -75,13 +76,14 @@ impl Pair {
         ensures wires { BothGoOn W.faults W.honest up.old up.new down.old down.new
             (IsErrOf result failure.WireFault) }
         ensures schema { (self.new.name ≡ self.old.name) × (self.new.version ≡ self.old.version) }
-        ensures label { OnOk result (LabelAfter self.old.client.label event.now self.new.client.label) }
+        ensures label { OnOk result
+            (LabelAfter self.old.client.label event.now self.new.client.label) }
 
         ensures told { TellsOver W.sent W.given self.old up.old down.old
             → OnOk result (TellsOver W.sent W.given self.new up.new down.new) }
         ensures world { (w : World) → W.honest up.old → W.honest down.old
             → StandsOver W.sent W.given self.old w up.old down.old
-            → IfOk result (StepsTo W.sent W.given self.new w event.now up.new down.new) }
+            → StepsTo W.sent W.given self.new w event.now up.new down.new result }
     {
         match event {
             Event::Ask {
@@ -121,8 +123,8 @@ impl Pair {
             → OnOk result (TellsOver W.sent W.given self.new up.new other) }
         ensures world { (w : World) (other : W) → W.honest up.old
             → StandsOver W.sent W.given self.old w up.old other
-            → IfOk result (StepsTo W.sent W.given self.new w
-            (event.Ask label.now name.now version text.now) up.new other) }
+            → StepsTo W.sent W.given self.new w
+            (event.Ask label.now name.now version text.now) up.new other result }
     {
         if !self.knows(name, version) {
             return Ok(Some(Refusal::NoSuchRpc));
@@ -147,15 +149,16 @@ impl Pair {
         down: &mut W,
     ) -> Result<Option<Refusal>, Failure>
         requires { IsText text.now }
-        ensures wire { GoesOn W.faults W.honest down.old down.new (IsErrOf result failure.WireFault) }
+        ensures wire { GoesOn W.faults W.honest down.old down.new
+            (IsErrOf result failure.WireFault) }
         ensures schema { (self.new.name ≡ self.old.name) × (self.new.version ≡ self.old.version) }
         ensures label { self.new.client.label ≡ self.old.client.label }
         ensures told { (other : W) → TellsOver W.sent W.given self.old other down.old
             → OnOk result (TellsOver W.sent W.given self.new other down.new) }
         ensures world { (w : World) (other : W) → W.honest down.old
             → StandsOver W.sent W.given self.old w other down.old
-            → IfOk result (StepsTo W.sent W.given self.new w (event.Reply label.now text.now)
-            other down.new) }
+            → StepsTo W.sent W.given self.new w (event.Reply label.now text.now)
+            other down.new result }
     {
         if !self.has_label(label) {
             return Ok(Some(Refusal::NoSuchLabel));
@@ -210,7 +213,8 @@ impl Pair {
         down: &mut W,
     ) -> Result<(), Failure>
         requires { 1 ≤ by }
-        ensures wire { GoesOn W.faults W.honest down.old down.new (IsErrOf result failure.WireFault) }
+        ensures wire { GoesOn W.faults W.honest down.old down.new
+            (IsErrOf result failure.WireFault) }
         ensures schema { (self.new.name ≡ self.old.name) × (self.new.version ≡ self.old.version) }
         ensures label { self.new.client.label ≡ self.old.client.label }
         ensures told { (other : W) → TellsOver W.sent W.given self.old other down.old

@@ -43,7 +43,8 @@ pub fn push_at_line(
 
 /// Appends the closing lines: the dispatch, both ends, and the bytes that moved.
 pub fn push_closing(alloc: Global, out: &mut Vec<u8>, pair: &Pair) -> Result<(), OutOfMemory>
-    ensures { OnOk result ((shown : Shown) × IsShownBy pair.now shown × (out.new.items ≡ out.old.items ++ closing_lines shown)) }
+    ensures { OnOk result ((shown : Shown) × IsShownBy pair.now shown
+        × (out.new.items ≡ out.old.items ++ closing_lines shown)) }
 {
     push_dispatched(alloc, out, pair)?;
     push_end(out, b"client ", pair.client.inbox.state())?;
@@ -92,7 +93,8 @@ fn push_dispatch(
     name: &[u8],
     version: u8,
 ) -> Result<(), OutOfMemory>
-    ensures { OnOk result (out.new.items ≡ out.old.items ++ dispatch_line label.now name.now version) }
+    ensures { OnOk result
+        (out.new.items ≡ out.old.items ++ dispatch_line label.now name.now version) }
 {
     out.extend_from_slice(label)?;
     out.extend_from_slice(b" id 0 ")?;

@@ -58,7 +58,7 @@ pub fn run<I: Source, O: Sink, W: Wire>(
         → IsReportOfInput (ReportedOver W.sent W.given up.new down.new) (I.left input.old)
         (Gains O.put out.old out.new) }
 
-    // Over honest ones it is the text of the replay, whatever the cut, and they tell the last world.
+    // Over honest ones it is the text of the replay, however cut, and they tell its last world.
     ensures replayed { HonestOver W.honest W.sent W.given up.old down.old
         → result ≡ code_of outcome.Done
         → IsReportOfInput (ReplayedOver W.sent W.given up.new down.new) (I.left input.old)
@@ -124,8 +124,9 @@ fn replay_text<O: Sink, W: Wire>(
 /// Writes which line of the input is refused.
 fn refuse<O: Sink>(alloc: Global, number: u64, out: &mut O) -> Status
     ensures write { Counts O.faults out.old out.new (result ≡ outcome.WriteFault) }
-    ensures answered { IsAnswered outcome.Refused (refused_line number) (Gains O.put out.old out.new)
-        result ⊎ ((result ≡ outcome.OutOfMemory) × Gains O.put out.old out.new []) }
+    ensures answered { IsAnswered outcome.Refused (refused_line number)
+        (Gains O.put out.old out.new) result
+        ⊎ ((result ≡ outcome.OutOfMemory) × Gains O.put out.old out.new []) }
 {
     let mut line = Vec::new(alloc);
     match push_at_line(alloc, &mut line, number, NOT_IN_FORM) {

@@ -5,6 +5,7 @@ ghost use Rattle.std.specs.Fmt.{decimal};
 ghost use Rattle.rpc_world.specs.declared.schedule.Event.{Event};
 ghost use Rattle.rpc_world.specs.Stream.{IsText};
 ghost use Rattle.rpc_world.specs.Input.{quoted, keyword, IsName, IsMovement, AreArguments, schema_words, IsSchemaLine, IsEventLine};
+ghost use Rattle.rpc_tool.specs.Limits.{greatest_version, largest_piece};
 ghost use Rattle.rpc_tool.specs.Input.{texts};
 
 use super::words::{is_name, number, parts_of, quoted_text, same};
@@ -52,10 +53,10 @@ pub fn read_schema(alloc: Global, line: &[u8]) -> Result<(Blob, u8), LineError>
 }
 
 fn schema_of(alloc: Global, words: &[&[u8]]) -> Result<(Blob, u8), LineError>
-    ensures spelled { IfOk result (λ schema. IsName schema.0 × (schema.1 ≤ 127)
+    ensures spelled { IfOk result (λ schema. IsName schema.0 × (schema.1 ≤ greatest_version)
         × (texts words.now ≡ schema_words schema.0 schema.1)) }
     ensures out_of_form { IsErrOf result LineError.OutOfForm → (name : List ℕ) (version : ℕ)
-        → IsName name → version ≤ 127 → texts words.now ≢ schema_words name version }
+        → IsName name → version ≤ greatest_version → texts words.now ≢ schema_words name version }
 {
     let [plain, name, version, call @ ..] = words else {
         return Err(LineError::OutOfForm);
@@ -86,7 +87,8 @@ fn is_string_call(words: &[&[u8]]) -> bool
 /// The event that a line spells.
 pub fn read_event(alloc: Global, line: &[u8]) -> Result<Event, LineError>
     ensures spelled { IfOk result (λ event. IsEventLine event line.now) }
-    ensures out_of_form { IsErrOf result LineError.OutOfForm → (event : Event) → IsEventLine event line.now → ⊥ }
+    ensures out_of_form { IsErrOf result LineError.OutOfForm
+        → (event : Event) → IsEventLine event line.now → ⊥ }
 {
     let words = parts_of(alloc, line, BLANK)?;
     let [keyword, arguments @ ..] = words.as_slice() else {
@@ -97,9 +99,11 @@ pub fn read_event(alloc: Global, line: &[u8]) -> Result<Event, LineError>
 
 /// The event of a keyword and the words after it.
 fn event_of(alloc: Global, word: &[u8], arguments: &[&[u8]]) -> Result<Event, LineError>
-    ensures spelled { IfOk result (λ event. (keyword event ≡ word.now) × AreArguments event (texts arguments.now)) }
+    ensures spelled { IfOk result (λ event. (keyword event ≡ word.now)
+        × AreArguments event (texts arguments.now)) }
     ensures out_of_form { IsErrOf result LineError.OutOfForm
-        → (event : Event) → keyword event ≡ word.now → AreArguments event (texts arguments.now) → ⊥ }
+        → (event : Event) → keyword event ≡ word.now
+        → AreArguments event (texts arguments.now) → ⊥ }
 {
     if same(word, b"ask") {
         read_ask(alloc, arguments)
@@ -118,7 +122,8 @@ fn event_of(alloc: Global, word: &[u8], arguments: &[&[u8]]) -> Result<Event, Li
 
 /// An ask, by the words after its keyword.
 fn read_ask(alloc: Global, words: &[&[u8]]) -> Result<Event, LineError>
-    ensures spelled { IfOk result (λ event. (keyword event ≡ codes "ask") × AreArguments event (texts words.now)) }
+    ensures spelled { IfOk result (λ event. (keyword event ≡ codes "ask")
+        × AreArguments event (texts words.now)) }
     ensures out_of_form { IsErrOf result LineError.OutOfForm
         → (event : Event) → keyword event ≡ codes "ask" → AreArguments event (texts words.now) → ⊥ }
 {
@@ -139,9 +144,11 @@ fn read_ask(alloc: Global, words: &[&[u8]]) -> Result<Event, LineError>
 
 /// A reply, by the words after its keyword.
 fn read_reply(alloc: Global, words: &[&[u8]]) -> Result<Event, LineError>
-    ensures spelled { IfOk result (λ event. (keyword event ≡ codes "reply") × AreArguments event (texts words.now)) }
+    ensures spelled { IfOk result (λ event. (keyword event ≡ codes "reply")
+        × AreArguments event (texts words.now)) }
     ensures out_of_form { IsErrOf result LineError.OutOfForm
-        → (event : Event) → keyword event ≡ codes "reply" → AreArguments event (texts words.now) → ⊥ }
+        → (event : Event) → keyword event ≡ codes "reply"
+        → AreArguments event (texts words.now) → ⊥ }
 {
     let [label, text] = words else {
         return Err(LineError::OutOfForm);
@@ -181,7 +188,8 @@ fn read_name(alloc: Global, word: &[u8]) -> Result<Blob, LineError>
 
 fn read_text(alloc: Global, word: &[u8]) -> Result<Blob, LineError>
     ensures spelled { IfOk result (λ text. IsText text × (word.now ≡ quoted text)) }
-    ensures out_of_form { IsErrOf result LineError.OutOfForm → (text : List ℕ) → IsText text → word.now ≢ quoted text }
+    ensures out_of_form { IsErrOf result LineError.OutOfForm
+        → (text : List ℕ) → IsText text → word.now ≢ quoted text }
 {
     let Some(text) = quoted_text(word) else {
         return Err(LineError::OutOfForm);
@@ -197,8 +205,10 @@ fn read_number(word: &[u8], max: u64) -> Result<u64, LineError>
 }
 
 fn read_version(word: &[u8]) -> Result<u8, LineError>
-    ensures spelled { IfOk result (λ version. (version ≤ 127) × (word.now ≡ decimal version)) }
-    ensures out_of_form { IsErr result → (version : ℕ) → version ≤ 127 → word.now ≢ decimal version }
+    ensures spelled { IfOk result (λ version. (version ≤ greatest_version)
+        × (word.now ≡ decimal version)) }
+    ensures out_of_form { IsErr result
+        → (version : ℕ) → version ≤ greatest_version → word.now ≢ decimal version }
 {
     let version = read_number(word, MAX_VERSION)?;
     Ok(version as u8)
@@ -206,8 +216,10 @@ fn read_version(word: &[u8]) -> Result<u8, LineError>
 
 /// The most bytes that a piece of a movement may have.
 fn read_piece(word: &[u8]) -> Result<u64, LineError>
-    ensures spelled { IfOk result (λ by. (1 ≤ by) × (by ≤ 65536) × (word.now ≡ decimal by)) }
-    ensures out_of_form { IsErr result → (by : ℕ) → 1 ≤ by → by ≤ 65536 → word.now ≢ decimal by }
+    ensures spelled { IfOk result (λ by. (1 ≤ by) × (by ≤ largest_piece)
+        × (word.now ≡ decimal by)) }
+    ensures out_of_form { IsErr result
+        → (by : ℕ) → 1 ≤ by → by ≤ largest_piece → word.now ≢ decimal by }
 {
     let by = read_number(word, MAX_PIECE)?;
     if by == 0 {

@@ -17,11 +17,13 @@ const MAX_NAME: usize = 32;
 
 /// What stands before, between and after the separators.
 pub fn parts_of(alloc: Global, bytes: &[u8], separator: u8) -> Result<Vec<&[u8]>, AllocError>
-    ensures { IfOk result (λ parts. texts parts.items ≡ slice_split (λ byte. nat_eq byte separator) bytes.now) }
+    ensures { IfOk result (λ parts. texts parts.items
+        ≡ slice_split (λ byte. nat_eq byte separator) bytes.now) }
 {
     bytes.split(|byte| *byte == separator).collect(alloc)
 }
 
+/// Whether two words are the same bytes.
 pub fn same(word: &[u8], other: &[u8]) -> bool
     ensures { IsTrue result ↔ (word.now ≡ other.now) }
 {
@@ -37,7 +39,8 @@ pub fn is_name(word: &[u8]) -> bool
 
 /// The text between two quotes. It has letters alone, so that no escape is needed.
 pub fn quoted_text(word: &[u8]) -> Option<&[u8]>
-    ensures { MatchOption result ((text : List ℕ) → IsText text → word.now ≢ quoted text) (λ text. IsText text.now × (word.now ≡ quoted text.now)) }
+    ensures { MatchOption result ((text : List ℕ) → IsText text → word.now ≢ quoted text)
+        (λ text. IsText text.now × (word.now ≡ quoted text.now)) }
 {
     let [first, text @ .., last] = word else {
         return None;
@@ -51,7 +54,8 @@ pub fn quoted_text(word: &[u8]) -> Option<&[u8]>
 
 /// A number of at most `max` in its one form: no sign, and no zero before another digit.
 pub fn number(word: &[u8], max: u64) -> Option<u64>
-    ensures { MatchOption result ((n : ℕ) → n ≤ max → word.now ≢ decimal n) (λ n. (n ≤ max) × (word.now ≡ decimal n)) }
+    ensures { MatchOption result ((n : ℕ) → n ≤ max → word.now ≢ decimal n)
+        (λ n. (n ≤ max) × (word.now ≡ decimal n)) }
 {
     let Ok(text) = str::from_utf8(word) else {
         return None;

@@ -1,5 +1,5 @@
 use Rattle.std.proofs.Common.{arith, ◌≡◌, ◌+◌, ◌-◌, ◌∙◌, ap, length, take}
-use Rattle.rpc_tool.proofs.Texts.{front-taken, piece-fits}
+use Rattle.rpc_tool.proofs.Texts.{front_taken, piece_fits}
 use Rattle.rpc_tool.proofs.carry.carry.Goals.{then-pieces-test+else-is_front, else-pieces-test, then-pieces-test+then-is_front+in_ok-carry_piece+then-not-branch}
 use Rattle.rpc_tool.proofs.carry.carry.Goals as goal
 
@@ -9,7 +9,7 @@ returns-clause-moved g c = λ stream more front.
     let moved = c.pieces.invariant.moved stream more front in
     elim c.pieces-test.branch [
       | then-pieces-test+else-is_front w ↦
-          let still = front-taken _ (start + (c.args.count - c.pieces.left)) stream front in
+          let still = front_taken _ (start + (c.args.count - c.pieces.left)) stream front in
           let test = w.is_front.ensures.1 (rw (c.pieces.invariant.awaited, moved) still) in
           cc
       | else-pieces-test w ↦
@@ -21,7 +21,7 @@ returns-clause-moved g c = λ stream more front.
             honest = c.pieces.invariant.honest.0 more.honest;
             told_sent = c.pieces.invariant.sent ∙ more.told_sent;
             told_given = c.pieces.invariant.given more.told_given;
-            within = piece-fits _ c.args.count c.pieces.left _ _ _ stream _ moved more.within
+            within = piece_fits _ c.args.count c.pieces.left _ _ _ stream _ moved more.within
                 c.pieces.invariant.left w.min-size.ensures;
           }) in
           cc

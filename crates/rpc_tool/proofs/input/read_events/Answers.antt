@@ -3,13 +3,13 @@ use Rattle.std.proofs.Common.{◌+◌, sym, ◌∙◌, ap, subst, take, Err}
 use Rattle.std.specs.List.{AllZip, count_by}
 use Rattle.rpc_world.specs.Input.{IsEventLine, is_ask}
 use Rattle.rpc_tool.specs.Input.{texts}
-use Rattle.rpc_tool.proofs.InputEvents.{at_line-bad, line_refused, ask_refused, lines_more, asks_more, told_few, told_one, told_first, told_same}
+use Rattle.rpc_tool.proofs.InputEvents.{at_line_bad, line_refused, ask_refused, lines_more, asks_more, told_few, told_one, told_first, told_same}
 use Rattle.rpc_tool.proofs.input.read_events.Goals as goal
 use Rattle.rpc_tool.proofs.input.read_events.Goals.{then-is_ask+else-asked, else-is_ask}
 
 pub returns-in-Err-clause-bad : goal.returns-in-Err-clause-bad
 returns-in-Err-clause-bad c line e =
-    let bad = at_line-bad (3 + c.loop-index.index) line c.in-Err.error (cc) in
+    let bad = at_line_bad (3 + c.loop-index.index) line c.in-Err.error (cc) in
     line_refused c.args.lines.now c.loop-index.index line _ c.loop-index.events.items c.loop-index-test.true bad.1
     c.loop-index.invariant.spelled (told_few c.loop-index.asked _ c.loop-index.invariant.asks) (c.in-Err.ensures.out_of_form (ap Err bad.0))
 

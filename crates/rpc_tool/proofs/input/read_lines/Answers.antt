@@ -1,7 +1,7 @@
 -- Which line is refused, by how far the reading came.
 use Rattle.std.proofs.Common.{ap, Err}
 use Rattle.std.proofs.lemmas.Result.{err_from_is_err_and}
-use Rattle.rpc_tool.proofs.InputEvents.{at_line-bad}
+use Rattle.rpc_tool.proofs.InputEvents.{at_line_bad}
 use Rattle.rpc_tool.proofs.InputLines.{at_none, at_first, at_alone, at_second, at_events}
 use Rattle.rpc_tool.proofs.input.read_lines.Goals as goal
 
@@ -10,7 +10,7 @@ returns-in_default-clause-bad c line e = at_none c.args.lines.now line c.in_defa
 
 pub returns-in-Err-clause-bad : goal.returns-in-Err-clause-bad
 returns-in-Err-clause-bad c line e =
-    let bad = at_line-bad 1 line c.in-Err.error (cc) in
+    let bad = at_line_bad 1 line c.in-Err.error (cc) in
     at_first c.args.lines.now _ line c.in-len1-up.len_at_least bad.1 (c.in-Err.ensures.out_of_form (ap Err bad.0))
 
 pub returns-in_default-rest-clause-bad : goal.returns-in_default-rest-clause-bad

@@ -4,12 +4,12 @@ use Rattle.bp_base.proofs.Counting.{both_after, both_steady}
 use Rattle.rpc_world.specs.World.{first_world, after}
 use Rattle.rpc_tool.specs.Replayed.{IsAsked, AreAnswers}
 use Rattle.rpc_tool.proofs.Shows.{reported, replayed}
-use Rattle.rpc_tool.proofs.Replaying.{may-step, asked-next, answers-next, world-next, length-before, taken}
+use Rattle.rpc_tool.proofs.Replaying.{may_step, asked_next, answers_next, world_next, length_before, taken}
 use Rattle.rpc_tool.proofs.replay.replay.Goals as goal
 
 pub step-requires-clause-once : goal.step-requires-clause-once
 step-requires-clause-once g c =
-    may-step _ c.as_slice-events.result.now _ _ c.events.invariant.asked (rw c.as_slice-events.ensures c.requires.asks) c.events-test.true c.index-events-index.is
+    may_step _ c.as_slice-events.result.now _ _ c.events.invariant.asked (rw c.as_slice-events.ensures c.requires.asks) c.events-test.true c.index-events-index.is
 
 pub events-preserved : goal.events-preserved
 events-preserved g c =
@@ -23,16 +23,16 @@ events-preserved g c =
       name = c.in_ok-answer.ensures.schema.0 ∙ c.events.invariant.name;
       version = c.in_ok-answer.ensures.schema.1 ∙ c.events.invariant.version;
       asked = subst (λ events. IsAsked c.step.new.self.client.label events) (sym more)
-          (asked-next _ _ before c.index-events-index.result c.events.invariant.asked c.in_ok-answer.ensures.label);
-      answers = answers-next _ _ _ _ c.events.invariant.answers c.in_ok-push_answer.ensures;
+          (asked_next _ _ before c.index-events-index.result c.events.invariant.asked c.in_ok-answer.ensures.label);
+      answers = answers_next _ _ _ _ c.events.invariant.answers c.in_ok-push_answer.ensures;
       told = λ fresh. c.in_ok-answer.ensures.told (c.events.invariant.told fresh);
       world = λ honest.
           let was = c.events.invariant.world honest in
           let stepped = c.in_ok-answer.ensures.world (after first before)
           (c.events.invariant.wires.up_honest.0 honest.up_honest)
           (c.events.invariant.wires.down_honest.0 honest.down_honest) was.0 in
-          world-next _ first _ before c.index-events-index.result c.events.index _ _ _ _ _ _ _ more
-          (length-before c.as_slice-events.result.now c.events.index c.events.invariant.within) was.1 stepped c.in_ok-push_answer.ensures;
+          world_next _ first _ before c.index-events-index.result c.events.index _ _ _ _ _ _ _ more
+          (length_before c.as_slice-events.result.now c.events.index c.events.invariant.within) was.1 stepped c.in_ok-push_answer.ensures;
     }
 
 pub returns-clause-reported : goal.returns-clause-reported

@@ -1,7 +1,7 @@
 use Rattle.std.proofs.Common.{◌∙◌, refl}
 use Rattle.rpc_world.specs.Report.{closing_lines}
 use Rattle.rpc_tool.specs.Stands.{labels_of}
-use Rattle.rpc_tool.proofs.Shows.{closing-joined}
+use Rattle.rpc_tool.proofs.Shows.{closing_joined}
 use Rattle.rpc_tool.proofs.report.push_closing.Goals as goal
 
 pub returns : goal.returns
@@ -32,5 +32,5 @@ returns c =
         down_moved = c.len-2.ensures ∙ c.args.pair.now.client.inbox.bytes.ok.0;
         down_put = refl;
       },
-      closing-joined _ _ _ _ _ _ _ some.2 c.in_ok-push_end.ensures c.in_ok-push_end-2.ensures c.in_ok-push_moved.ensures c.in_ok-push_moved-2.ensures,
+      closing_joined _ _ _ _ _ _ _ some.2 c.in_ok-push_end.ensures c.in_ok-push_end-2.ensures c.in_ok-push_moved.ensures c.in_ok-push_moved-2.ensures,
     )

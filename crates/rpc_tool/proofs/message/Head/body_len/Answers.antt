@@ -1,12 +1,12 @@
 use Rattle.std.proofs.Common.{arith}
-use Rattle.rpc_tool.proofs.Agreeing.{written-short}
+use Rattle.rpc_tool.proofs.Agreeing.{written_short}
 use Rattle.rpc_tool.proofs.message.Head.body_len.Goals as goal
 
 pub overflow_add-result : goal.overflow_add-result
-overflow_add-result c = omega (arith, written-short c.data_len-data_len.result)
+overflow_add-result c = omega (arith, written_short c.data_len-data_len.result)
 
 pub overflow_add-result-2 : goal.overflow_add-result-2
-overflow_add-result-2 c = omega (arith, written-short c.data_len-data_len.result)
+overflow_add-result-2 c = omega (arith, written_short c.data_len-data_len.result)
 
 pub returns-clause-bound : goal.returns-clause-bound
-returns-clause-bound c = omega (arith, written-short c.data_len-data_len.result)
+returns-clause-bound c = omega (arith, written_short c.data_len-data_len.result)

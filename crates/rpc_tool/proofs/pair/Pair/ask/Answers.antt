@@ -2,7 +2,7 @@ use Rattle.std.proofs.Common.{Some, ◌≡◌, ◌∙◌, sym, refl, ap}
 use Rattle.rpc_world.specs.declared.schedule.Event.TheVariants.{Ask}
 use Rattle.rpc_world.specs.declared.schedule.Refusal.TheVariants.{NoSuchRpc, NotOpen}
 use Rattle.rpc_world.specs.Stream.{query_lead}
-use Rattle.rpc_tool.proofs.Standing.{refused, went, unknown, early, askable, client-front, asked}
+use Rattle.rpc_tool.proofs.Standing.{refused, went, unknown, early, askable, client_front, asked}
 use Rattle.rpc_tool.proofs.pair.Pair.ask.Goals as goal
 
 pub returns-then-not-knows-clause-world : goal.returns-then-not-knows-clause-world
@@ -12,7 +12,7 @@ returns-then-not-knows-clause-world g c = λ w other honest stands.
 
 pub returns-then-not-is_front-clause-world : goal.returns-then-not-is_front-clause-world
 returns-then-not-is_front-clause-world g c = λ w other honest stands.
-    let front = c.is_front.ensures.1 (client-front _ w _ _ _ _ stands) in cc
+    let front = c.is_front.ensures.1 (client_front _ w _ _ _ _ stands) in cc
 
 pub returns-then-not-has_header-clause-world : goal.returns-then-not-has_header-clause-world
 returns-then-not-has_header-clause-world g c = λ w other honest stands.

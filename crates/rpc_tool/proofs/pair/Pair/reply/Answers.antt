@@ -1,7 +1,7 @@
 use Rattle.std.proofs.Common.{◌∙◌, sym, refl}
 use Rattle.rpc_world.specs.declared.schedule.Event.TheVariants.{Reply}
 use Rattle.rpc_world.specs.declared.schedule.Refusal.TheVariants.{NoSuchLabel, NoSuch}
-use Rattle.rpc_tool.proofs.Standing.{refused, went, unlabelled, unasked, answerable, server-front, waiting, not-waiting, responded}
+use Rattle.rpc_tool.proofs.Standing.{refused, went, unlabelled, unasked, answerable, server_front, waiting, not_waiting, responded}
 use Rattle.rpc_tool.proofs.pair.Pair.reply.Goals as goal
 
 pub returns-then-not-has_label-clause-world : goal.returns-then-not-has_label-clause-world
@@ -11,13 +11,13 @@ returns-then-not-has_label-clause-world g c = λ w other honest stands.
 
 pub returns-then-not-is_front-clause-world : goal.returns-then-not-is_front-clause-world
 returns-then-not-is_front-clause-world g c = λ w other honest stands.
-    let front = c.is_front.ensures.1 (server-front _ w _ _ _ _ stands) in cc
+    let front = c.is_front.ensures.1 (server_front _ w _ _ _ _ stands) in cc
 
 pub returns-then-not-is_waiting-clause-world : goal.returns-then-not-is_waiting-clause-world
 returns-then-not-is_waiting-clause-world g c = λ w other honest stands.
     refused _ w _ _ _ _ (Reply c.args.label.now c.args.text.now) NoSuch
     (unasked _ w _ _ _ _ c.args.label.now c.args.text.now stands (sym c.has_label.ensures ∙ c.if-not-has_label.false)
-    (not-waiting _ w _ _ _ _ stands (λ waits. let test = c.is_waiting.ensures.1 waits in cc))) stands
+    (not_waiting _ w _ _ _ _ stands (λ waits. let test = c.is_waiting.ensures.1 waits in cc))) stands
 
 pub respond-requires-clause-first : goal.respond-requires-clause-first
 respond-requires-clause-first g c = (c.is_waiting.ensures.0 c.if-not-is_waiting.false).0
