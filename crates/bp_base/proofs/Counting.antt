@@ -12,7 +12,8 @@ pub both_after : {W : Type 0} (faults_of : W → ℕ) (is_honest : W → Type 0)
 both_after faults_of is_honest up_old up_mid up_new down_old down_mid down_new failed before next =
     let up_same : faults_of up_mid ≡ faults_of up_old = before.up_steady (λ none. none) in
     let down_same : faults_of down_mid ≡ faults_of down_old = before.down_steady (λ none. none) in
-    let rise : Rose (faults_of up_mid) (faults_of up_new) ⊎ Rose (faults_of down_mid) (faults_of down_new)
+    let rise : Rose (faults_of up_mid) (faults_of up_new)
+    ⊎ Rose (faults_of down_mid) (faults_of down_new)
     → Rose (faults_of up_old) (faults_of up_new) ⊎ Rose (faults_of down_old) (faults_of down_new) =
     elim [
       | inl up ↦ inl (subst (λ n. Rose n (faults_of up_new)) up_same up)

@@ -2,6 +2,7 @@ pub mod Agreeing
 pub mod Texts
 pub mod Same
 pub mod Standing
+pub mod Effects
 pub mod Shows
 pub mod Replaying
 pub mod Answering

@@ -60,8 +60,8 @@ abbrev pub awaited_with : List (List ℕ) → Option (List ℕ)
 awaited_with [] = None
 awaited_with (label ∷ labels) = Some response_lead
 
--- Over any wires that told their bytes: what the closing lines show is what the wires gave, whatever
--- it is.
+-- Over any wires that told their bytes: what the closing lines show is what the wires gave,
+-- whatever it is.
 pub record IsSeen (s : Schedule) (shown : Shown)
     (up_sent up_given down_sent down_given : List ℕ) : Type 0 where
   pub name : shown.name ≡ s.name

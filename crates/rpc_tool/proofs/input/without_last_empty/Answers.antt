@@ -5,7 +5,11 @@ use Rattle.rpc_tool.proofs.InputLines.{texts_cut, texts_whole}
 use Rattle.rpc_tool.proofs.input.without_last_empty.Goals as goal
 
 pub returns-then-is_empty : goal.returns-then-is_empty
-returns-then-is_empty c = texts_cut c.args.parts.now _ c.in-len1-up.len_at_least (eqb-true _ _ (sym c.is_empty.ensures ∙ c.if-is_empty.true))
+returns-then-is_empty c =
+    texts_cut c.args.parts.now _ c.in-len1-up.len_at_least
+    (eqb-true _ _ (sym c.is_empty.ensures ∙ c.if-is_empty.true))
 
 pub returns-else-is_empty : goal.returns-else-is_empty
-returns-else-is_empty c = texts_whole c.args.parts.now _ c.in-len1-up.len_at_least (eqb-false _ _ (sym c.is_empty.ensures ∙ c.if-is_empty.false))
+returns-else-is_empty c =
+    texts_whole c.args.parts.now _ c.in-len1-up.len_at_least
+    (eqb-false _ _ (sym c.is_empty.ensures ∙ c.if-is_empty.false))

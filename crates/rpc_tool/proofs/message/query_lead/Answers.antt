@@ -6,10 +6,22 @@ use Rattle.rpc_tool.proofs.message.query_lead.Goals as goal
 pub returns-clause-bytes : goal.returns-clause-bytes
 unfolding query_lead
 returns-clause-bytes c =
-    rw (c.in_ok-extend_from_slice-2.ensures.items, c.in_ok-extend_from_slice.ensures.items, c.in_ok-push_nat0.ensures, c.in_ok-push.ensures.items, c.in_ok-lead.ensures.items)
+    rw (
+      c.in_ok-extend_from_slice-2.ensures.items,
+      c.in_ok-extend_from_slice.ensures.items,
+      c.in_ok-push_nat0.ensures,
+      c.in_ok-push.ensures.items,
+      c.in_ok-lead.ensures.items,
+    )
     (simp append_assoc)
 
 pub returns-clause-short : goal.returns-clause-short
 returns-clause-short c =
-    rw (c.in_ok-extend_from_slice-2.ensures.items, c.in_ok-extend_from_slice.ensures.items, c.in_ok-push_nat0.ensures, c.in_ok-push.ensures.items, c.in_ok-lead.ensures.items)
+    rw (
+      c.in_ok-extend_from_slice-2.ensures.items,
+      c.in_ok-extend_from_slice.ensures.items,
+      c.in_ok-push_nat0.ensures,
+      c.in_ok-push.ensures.items,
+      c.in_ok-lead.ensures.items,
+    )
     (simp length-append (omega (arith, written_short (length c.args.name.now))))

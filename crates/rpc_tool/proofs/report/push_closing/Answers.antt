@@ -32,5 +32,6 @@ returns c =
         down_moved = c.len-2.ensures ∙ c.args.pair.now.client.inbox.bytes.ok.0;
         down_put = refl;
       },
-      closing_joined _ _ _ _ _ _ _ some.2 c.in_ok-push_end.ensures c.in_ok-push_end-2.ensures c.in_ok-push_moved.ensures c.in_ok-push_moved-2.ensures,
+      closing_joined _ _ _ _ _ _ _ some.2 c.in_ok-push_end.ensures c.in_ok-push_end-2.ensures
+          c.in_ok-push_moved.ensures c.in_ok-push_moved-2.ensures,
     )

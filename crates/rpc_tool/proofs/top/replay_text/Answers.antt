@@ -26,7 +26,8 @@ returns-in-Err-BadLine-clause-said g c =
     refused_said Reports Replay c.args.text.now
     (Gains g.O.Sink.put c.args.out.now c.refuse.new.out) _ c.refuse.result (
       c.in-Err-BadLine.line,
-      c.in-Err-BadLine.ensures.bad c.in-Err-BadLine.line (ap (λ e. Err e) c.in-Err-BadLine.field-0-is),
+      c.in-Err-BadLine.ensures.bad c.in-Err-BadLine.line
+          (ap (λ e. Err e) c.in-Err-BadLine.field-0-is),
       refl,
     )
     c.refuse.ensures.answered

@@ -13,8 +13,11 @@ pub returns-in-Some-awaited : goal.returns-in-Some-awaited
 unfolding header
 returns-in-Some-awaited c =
     rw c.in-Some-awaited.is
-    (front_result _ _ _ _ (rw c.deref.ensures.value at c.in-Some.ensures) (rw c.as_slice.ensures at c.is_message_front.ensures))
+    (front_result _ _ _ _ (rw c.deref.ensures.value at c.in-Some.ensures)
+    (rw c.as_slice.ensures at c.is_message_front.ensures))
 
 pub returns-in-None : goal.returns-in-None
 unfolding header
-returns-in-None c = rw c.in-None.is (header_result _ _ _ (rw c.deref.ensures.value at c.in-Some.ensures) c.is_empty.ensures)
+returns-in-None c =
+    rw c.in-None.is
+    (header_result _ _ _ (rw c.deref.ensures.value at c.in-Some.ensures) c.is_empty.ensures)

@@ -6,9 +6,11 @@ pub returns-in-Some : goal.returns-in-Some
 unfolding header
 returns-in-Some c =
     rw c.in-Some.is
-    (given_result _ _ _ _ (rw c.deref.ensures.value at c.in_ok-bytes.ensures) (rw c.as_slice.ensures at c.message_text.ensures))
+    (given_result _ _ _ _ (rw c.deref.ensures.value at c.in_ok-bytes.ensures)
+    (rw c.as_slice.ensures at c.message_text.ensures))
 
 pub returns-in_err-bytes : goal.returns-in_err-bytes
 unfolding header
 returns-in_err-bytes c =
-    rw c.from_residual.ensures (λ text. none_given _ _ text (rw c.deref.ensures.value at c.in_err-bytes.ensures))
+    rw c.from_residual.ensures
+    (λ text. none_given _ _ text (rw c.deref.ensures.value at c.in_err-bytes.ensures))

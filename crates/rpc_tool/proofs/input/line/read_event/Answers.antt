@@ -7,8 +7,15 @@ use Rattle.rpc_tool.proofs.input.line.read_event.Goals as goal
 
 pub returns-clause-spelled : goal.returns-clause-spelled
 returns-clause-spelled c =
-    event_spelled _ _ _ _ (sym c.in_ok-words.ensures ∙ (ap texts (sym c.as_slice.ensures.value) ∙ texts_first c.as_slice.result.now _ c.in-len1-up.len_at_least)) c.event_of.ensures.spelled
+    event_spelled _ _ _ _
+    (sym c.in_ok-words.ensures
+    ∙ (ap texts (sym c.as_slice.ensures.value)
+    ∙ texts_first c.as_slice.result.now _ c.in-len1-up.len_at_least)) c.event_of.ensures.spelled
 
 pub returns-clause-out_of_form : goal.returns-clause-out_of_form
 returns-clause-out_of_form c e event h =
-    no_event _ _ _ (sym c.in_ok-words.ensures ∙ (ap texts (sym c.as_slice.ensures.value) ∙ texts_first c.as_slice.result.now _ c.in-len1-up.len_at_least)) (c.event_of.ensures.out_of_form e) event h
+    no_event _ _ _
+    (sym c.in_ok-words.ensures
+    ∙ (ap texts (sym c.as_slice.ensures.value)
+    ∙ texts_first c.as_slice.result.now _ c.in-len1-up.len_at_least))
+    (c.event_of.ensures.out_of_form e) event h

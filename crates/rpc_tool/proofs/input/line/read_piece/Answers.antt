@@ -5,4 +5,6 @@ use Rattle.rpc_tool.proofs.input.line.read_piece.Goals as goal
 
 pub returns-then-by-eq0-clause-out_of_form : goal.returns-then-by-eq0-clause-out_of_form
 returns-then-by-eq0-clause-out_of_form c failed by low high same =
-    let zero = decimal_injective c.in_ok-by.by by (omega arith) (omega arith) (sym c.in_ok-by.ensures.spelled.1 ∙ same) in omega arith
+    let zero =
+    decimal_injective c.in_ok-by.by by (omega arith) (omega arith)
+    (sym c.in_ok-by.ensures.spelled.1 ∙ same) in omega arith

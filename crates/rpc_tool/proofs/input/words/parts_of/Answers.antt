@@ -5,4 +5,7 @@ use Rattle.std.proofs.lemmas.Iterator.Splits.{YieldsList-from_slice_split}
 use Rattle.rpc_tool.proofs.input.words.parts_of.Goals as goal
 
 pub returns : goal.returns
-returns c = map_from_collect _ c.collect.ensures.ran (YieldsList-from_slice_split _ (λ byte. nat_eq byte c.args.separator) c.args.bytes.now c.split.ensures.rest c.split.ensures.done c.split.ensures.closure (search rules))
+returns c =
+    map_from_collect _ c.collect.ensures.ran
+    (YieldsList-from_slice_split _ (λ byte. nat_eq byte c.args.separator) c.args.bytes.now
+    c.split.ensures.rest c.split.ensures.done c.split.ensures.closure (search rules))

@@ -1,6 +1,7 @@
 use Rattle.std.proofs.Common.{◌≡◌, ◌-◌, ◌∙◌, ap, refl, length}
 use Rattle.rpc_world.specs.World.{down_stream, moved_of}
-use Rattle.rpc_tool.proofs.Standing.{moved_down, client_stream, down_fits}
+use Rattle.rpc_tool.proofs.Standing.{client_stream}
+use Rattle.rpc_tool.proofs.Effects.{moved_down, down_fits}
 use Rattle.rpc_tool.proofs.pair.Pair.move_down.Goals as goal
 
 pub returns-clause-world : goal.returns-clause-world

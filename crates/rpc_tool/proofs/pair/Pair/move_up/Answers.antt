@@ -1,6 +1,7 @@
 use Rattle.std.proofs.Common.{◌≡◌, ◌-◌, ◌∙◌, ap, refl, length}
 use Rattle.rpc_world.specs.World.{up_stream, moved_of}
-use Rattle.rpc_tool.proofs.Standing.{moved_up, server_stream, up_fits}
+use Rattle.rpc_tool.proofs.Standing.{server_stream}
+use Rattle.rpc_tool.proofs.Effects.{moved_up, up_fits}
 use Rattle.rpc_tool.proofs.pair.Pair.move_up.Goals as goal
 
 pub returns-clause-world : goal.returns-clause-world
