@@ -32,8 +32,9 @@ pub enum ReadGot {
 
 /// A stream of bytes that come in, in pieces of any size.
 ///
-/// A fault may be counted only in a call that answers `Failed`: a read that has bytes to give and
-/// meets a fault gives the bytes first. The count stays at the last value of a `u64`.
+/// A fault may be counted only in a call that answers `Failed`: a read that has bytes to give gives
+/// them, and leaves a fault that it met to a later call. The count stays at the last value of a
+/// `u64`.
 pub trait Source {
     /// How often the source has failed.
     ghost faults: { Self → ℕ };
