@@ -74,6 +74,17 @@ IsReadWhole status = ⊥
 abbrev pub IsWholeCode : ℕ → Type 0
 IsWholeCode code = (status : Status) × IsReadWhole status × (code ≡ code_of status)
 
+-- the statuses of which the program says something on standard error, and their codes
+abbrev pub IsTrouble : Status → Type 0
+IsTrouble ReadFault = ⊤
+IsTrouble WriteFault = ⊤
+IsTrouble OutOfMemory = ⊤
+IsTrouble TooLong = ⊤
+IsTrouble status = ⊥
+
+abbrev pub IsTroubleCode : ℕ → Type 0
+IsTroubleCode code = (status : Status) × IsTrouble status × (code ≡ code_of status)
+
 -- What the code of a run means. `left` is what its input had to give, where told; `Comes bytes` is
 -- that these bytes came from it, and `Writes text` that exactly this text was put to the output.
 pub record Means (Reports : Schedule → List ℕ → Type 0) (Comes : List ℕ → Type 0)

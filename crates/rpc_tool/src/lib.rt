@@ -15,6 +15,7 @@ mod status;
 mod text;
 mod top;
 
+pub use status::{Status, trouble};
 pub use top::run;
 
 #[cfg(test)]

@@ -1,6 +1,6 @@
 // How a run ended.
-ghost use Rattle.std.specs.Prelude.{◌≡◌};
-ghost use Rattle.rpc_tool.specs.Means.{code_of};
+ghost use Rattle.std.specs.Prelude.{◌≡◌, ◌↔◌, IsSome};
+ghost use Rattle.rpc_tool.specs.Means.{code_of, IsTroubleCode};
 
 /// How a run ended. Its code is the exit status of the program.
 #[derive(Clone, Copy, Debug, PartialEq, Eq)]
@@ -33,5 +33,23 @@ impl Status {
             Status::OutOfMemory => 6,
             Status::TooLong => 7,
         }
+    }
+}
+
+/// What the program says on standard error at an exit status, beside what it writes, if anything:
+/// that reading or writing failed, that memory ran out, or that too much input came.
+pub fn trouble(code: u8) -> Option<&'static str>
+    ensures { IsSome result ↔ IsTroubleCode code }
+{
+    if code == Status::ReadFault.code() {
+        Some("reading the input failed")
+    } else if code == Status::WriteFault.code() {
+        Some("writing failed")
+    } else if code == Status::OutOfMemory.code() {
+        Some("out of memory")
+    } else if code == Status::TooLong.code() {
+        Some("more than 67108864 bytes of input")
+    } else {
+        None
     }
 }

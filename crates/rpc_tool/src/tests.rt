@@ -1,4 +1,4 @@
-use crate::run;
+use crate::{run, trouble};
 use bp_base::{BentWire, MemSink, MemSource, MemWire, Wire};
 use std::alloc::{AllocError, Global};
 use std::test::Fail;
@@ -340,4 +340,19 @@ fn refuses_other_words_and_too_long_an_input(rt: HostRuntime) -> Result<(), Fail
         assert_eq!(rt; out.bytes(), report);
     }
     Ok(())
+}
+
+#[test]
+fn tells_of_trouble_in_one_line(rt: HostRuntime) {
+    let lines = [
+        (2, None),
+        (3, Some("reading the input failed")),
+        (4, Some("writing failed")),
+        (5, None),
+        (6, Some("out of memory")),
+        (7, Some("more than 67108864 bytes of input")),
+    ];
+    for (code, line) in lines {
+        assert_eq!(rt; trouble(code), line, "at {code}");
+    }
 }
