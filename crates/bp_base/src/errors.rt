@@ -24,11 +24,13 @@ impl<T: Drop> From<AllocFailed<T>> for OutOfMemory {
 /// Why a source was not read to its end. The bytes that were read are lost.
 #[derive(Clone, Copy, Debug, PartialEq, Eq, Error)]
 pub enum ReadAllError {
+    /// A read failed: the source had a fault, which it counted.
     #[error("a read failed")]
     ReadFault,
     /// More than so many bytes came.
     #[error("more than {max} bytes")]
     TooLong { max: usize },
+    /// No memory was left for the bytes.
     #[error("out of memory")]
     OutOfMemory,
 }
@@ -47,5 +49,6 @@ impl From<AllocError> for ReadAllError {
 #[derive(Clone, Copy, Debug, PartialEq, Eq, Error)]
 #[error("a write failed after {written} bytes")]
 pub struct WriteFault {
+    /// How many bytes of the piece the sink took.
     pub written: usize,
 }

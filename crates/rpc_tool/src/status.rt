@@ -5,14 +5,19 @@ ghost use Rattle.rpc_tool.specs.Means.{code_of, IsTroubleCode};
 /// How a run ended. Its code is the exit status of the program.
 #[derive(Clone, Copy, Debug, PartialEq, Eq)]
 pub enum Status {
+    /// The command was done, and its report written.
     Done,
     /// The input is refused.
     Refused,
     /// The words are no command.
     Usage,
+    /// Reading the input failed.
     ReadFault,
+    /// Writing the output failed.
     WriteFault,
+    /// A call of a wire failed.
     WireFault,
+    /// No memory was left.
     OutOfMemory,
     /// More bytes of input came than a command takes.
     TooLong,
