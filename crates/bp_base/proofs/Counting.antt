@@ -1,5 +1,5 @@
 -- How wires and their counts go on over calls in a row.
-use Rattle.std.proofs.Common.{◌≡◌, ◌≤◌, ℕ, arith, ◌∙◌, inl, inr, subst, sym}
+use Rattle.std.proofs.Common.{◌≡◌, ℕ, arith, ◌∙◌, inl, inr, subst}
 use Rattle.std.specs.Prelude.{◌⊎◌}
 use Rattle.bp_base.specs.Faults.{Rose, BothGoOn}
 

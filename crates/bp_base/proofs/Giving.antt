@@ -1,9 +1,10 @@
 -- How the bytes before a place and those from it on change as the place moves on.
-use Rattle.std.proofs.Common.{◌≡◌, ℕ, zero, suc, ◌+◌, ◌<◌, ◌≤◌, List, [], ◌∷◌, ◌++◌, Vec, min, length, get_or, slice_get, Some, take, drop, refl, sym, ap, ◌∙◌, subst, arith, append_assoc, length-append, take-add, take-append-drop}
+use Rattle.std.proofs.Common.{◌≡◌, ℕ, zero, suc, ◌+◌, ◌<◌, ◌≤◌, List, [], ◌∷◌, ◌++◌, Vec, min, length, get_or, slice_get, Some, take, drop, refl, sym, ap, ◌∙◌, subst, arith, append_assoc, length-append, length-drop, inl, inr, take-add, take-append-drop}
 use Rattle.std.proofs.lemmas.List.{append-nil, take_all, drop_all, drop-drop}
+use Rattle.std.proofs.lemmas.Bool.{cases_lt}
 use Rattle.std.specs.declared.alloc.Global.{Global}
 use Rattle.bp_base.specs.Faults.{last_count}
-use Rattle.bp_base.specs.Places.{Parts, joined, bytes_before, bytes_from}
+use Rattle.bp_base.specs.Places.{Parts, joined, bytes_before, bytes_from, or_else, next_piece}
 
 -- From the first place to the second only pieces that were given whole were passed, and the buffer
 -- stayed.
@@ -11,6 +12,7 @@ pub record Passes (first : Parts) (first_whole first_at : ℕ) (first_into : Lis
     (now : Parts) (whole at : ℕ) (into : List ℕ) : Type 0 where
   pub before : bytes_before now whole at ≡ bytes_before first first_whole first_at
   pub left : bytes_from now whole at ≡ bytes_from first first_whole first_at
+  pub next : next_piece now whole at ≡ next_piece first first_whole first_at
   pub into_same : into ≡ first_into
 
 pub bytes_before_start : (pieces : Parts) → bytes_before pieces 0 0 ≡ []
@@ -60,6 +62,51 @@ bytes_from_next (first ∷ pieces) zero at piece is past =
     bytes_from_start pieces ∙ sym (ap (λ l. l ++ joined pieces) (drop_all at first.items short))
 bytes_from_next (first ∷ pieces) (suc whole) at piece is past =
     bytes_from_next pieces whole at piece is past
+
+pub next_piece_next : (pieces : Parts) (whole at : ℕ) (piece : Vec ℕ Global)
+    → slice_get pieces whole ≡ Some piece → length piece.items ≤ at
+    → next_piece pieces (suc whole) 0 ≡ next_piece pieces whole at
+next_piece_next [] whole at piece is past = refl
+next_piece_next (first ∷ pieces) zero at piece is past =
+    let same : first ≡ piece = cc in
+    let short : length first.items ≤ at =
+    subst (λ (p : Vec ℕ Global). length p.items ≤ at) (sym same) past in
+    sym (ap (λ l. or_else l (next_piece pieces 0 0)) (drop_all at first.items short))
+next_piece_next (first ∷ pieces) (suc whole) at piece is past =
+    next_piece_next pieces whole at piece is past
+
+-- the piece at the place is the next one where a byte of it is left
+pub next_piece_here : (pieces : Parts) (whole at : ℕ) (piece : Vec ℕ Global)
+    → slice_get pieces whole ≡ Some piece → at < length piece.items
+    → next_piece pieces whole at ≡ drop at piece.items
+next_piece_here [] whole at piece is some = let none : ⊥ = cc in absurd none
+next_piece_here (first ∷ pieces) zero at piece is some =
+    let same : first ≡ piece = cc in
+    let more : 0 < length (drop at piece.items) = omega (arith, length-drop at piece.items) in
+    ap (λ (p : Vec ℕ Global). or_else (drop at p.items) (next_piece pieces 0 0)) same
+    ∙ or_else_some (drop at piece.items) (next_piece pieces 0 0) more
+  where
+    or_else_some : (xs ys : List ℕ) → 0 < length xs → or_else xs ys ≡ xs
+    or_else_some [] ys more = absurd (omega arith)
+    or_else_some (x ∷ xs) ys more = refl
+next_piece_here (first ∷ pieces) (suc whole) at piece is some =
+    next_piece_here pieces whole at piece is some
+
+pub next_piece_end : (pieces : Parts) (whole at : ℕ) → length pieces ≤ whole
+    → next_piece pieces whole at ≡ []
+next_piece_end [] whole at past = refl
+next_piece_end (piece ∷ pieces) zero at past = absurd (omega arith)
+next_piece_end (piece ∷ pieces) (suc whole) at past = next_piece_end pieces whole at (omega arith)
+
+-- as much of a list as fits
+pub take_fitting : (xs : List ℕ) (count room : ℕ) → count ≡ min (length xs) room
+    → take count xs ≡ take room xs
+take_fitting xs count room is =
+    elim (cases_lt room (length xs)) [
+      | inl less ↦ let same : count ≡ room = omega arith in ap (λ n. take n xs) same
+      | inr fits ↦
+          take_all count xs (omega arith) ∙ sym (take_all room xs (omega arith))
+    ]
 
 -- more bytes of the piece
 pub bytes_before_more : (pieces : Parts) (whole at count : ℕ) (piece : Vec ℕ Global)

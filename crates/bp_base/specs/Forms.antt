@@ -2,11 +2,12 @@
 use Rattle.std.specs.Prelude.{◌≡◌, ℕ, ◌-◌, ◌↔◌, List, Some, take, vec_len, Contains}
 use Rattle.std.specs.declared.option.Option.{Option}
 use Rattle.bp_base.specs.Faults.{counted}
-use Rattle.bp_base.specs.Places.{bytes_before, bytes_from}
+use Rattle.bp_base.specs.Places.{bytes_before, bytes_from, next_piece}
 use Rattle.bp_base.specs.declared.calls.Calls.{Calls}
 use Rattle.bp_base.specs.declared.pieces.Pieces.{Pieces}
 use Rattle.bp_base.specs.declared.queue.Queue.{Queue}
 use Rattle.bp_base.specs.declared.sources.MemSource.{MemSource}
+use Rattle.bp_base.specs.declared.sources.SteadySource.{SteadySource}
 use Rattle.bp_base.specs.declared.sinks.MemSink.{MemSink}
 use Rattle.bp_base.specs.declared.wires.MemWire.{MemWire}
 use Rattle.bp_base.specs.declared.wires.BentWire.{BentWire}
@@ -49,6 +50,16 @@ pieces_given p = Some (bytes_before p.pieces.items p.whole p.at)
 
 abbrev pub pieces_left : Pieces → Option (List ℕ)
 pieces_left p = Some (bytes_from p.pieces.items p.whole p.at)
+
+-- those left of the next piece that has any
+abbrev pub pieces_next : Pieces → List ℕ
+pieces_next p = next_piece p.pieces.items p.whole p.at
+
+abbrev pub source_next : MemSource → List ℕ
+source_next source = pieces_next source.pieces
+
+abbrev pub steady_next : SteadySource → List ℕ
+steady_next source = pieces_next source.pieces
 
 -- the bytes that were put into a queue, and those that were taken out of it again
 abbrev pub queue_put : Queue → Option (List ℕ)

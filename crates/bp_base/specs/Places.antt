@@ -21,3 +21,14 @@ abbrev pub bytes_from : Parts → ℕ → ℕ → List ℕ
 bytes_from [] whole at = []
 bytes_from (piece ∷ pieces) zero at = drop at piece.items ++ joined pieces
 bytes_from (piece ∷ pieces) (suc whole) at = bytes_from pieces whole at
+
+-- a list, or where it is empty another
+abbrev pub or_else : List ℕ → List ℕ → List ℕ
+or_else [] other = other
+or_else (x ∷ xs) other = x ∷ xs
+
+-- what is left of the first piece that has a byte from the place on
+abbrev pub next_piece : Parts → ℕ → ℕ → List ℕ
+next_piece [] whole at = []
+next_piece (piece ∷ pieces) zero at = or_else (drop at piece.items) (next_piece pieces 0 0)
+next_piece (piece ∷ pieces) (suc whole) at = next_piece pieces whole at

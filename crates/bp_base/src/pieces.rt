@@ -1,5 +1,5 @@
 // The bytes of a source in memory.
-ghost use Rattle.std.specs.Prelude.{◌≡◌, ◌≢◌, ◌≤◌, [], Some, min, length, drop};
+ghost use Rattle.std.specs.Prelude.{◌≡◌, ◌≢◌, ◌≤◌, [], Some, min, length, take, drop};
 ghost use Rattle.std.specs.Io.KnownBytes.{IsAtEnd};
 ghost use Rattle.bp_base.specs.Faults.{last_count};
 ghost use Rattle.bp_base.specs.Told.{Gains, Loses};
@@ -22,7 +22,7 @@ pub struct Pieces {
 
 impl Pieces {
     ghost use Rattle.bp_base.specs.Moves.{read_count, read_bytes, ReadFits};
-    ghost use Rattle.bp_base.specs.Forms.{pieces_given, pieces_left};
+    ghost use Rattle.bp_base.specs.Forms.{pieces_given, pieces_left, pieces_next};
 
     /// Pieces of which none were given yet.
     pub fn new(pieces: Vec<Vec<u8>>) -> Self
@@ -45,6 +45,7 @@ impl Pieces {
         ensures fits { ReadFits result (length into.old) }
         ensures given { Gains pieces_given self.old self.new (read_bytes result into.new) }
         ensures left { Loses pieces_left self.old self.new (read_bytes result into.new) }
+        ensures piece { read_bytes result into.new ≡ take (length into.old) (pieces_next self.old) }
         ensures rest { drop (read_count result) into.new ≡ drop (read_count result) into.old }
 
         ensures never_idle { result ≢ ReadGot.Idle }

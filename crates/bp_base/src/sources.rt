@@ -1,11 +1,11 @@
 // Sources in memory.
-ghost use Rattle.std.specs.Prelude.{◌≡◌, ◌≢◌, ◌≤◌, [], ℕ, false, Some, IfSome, min, length, drop};
+ghost use Rattle.std.specs.Prelude.{◌≡◌, ◌≢◌, ◌≤◌, [], ℕ, false, Some, IfSome, min, length, take, drop};
 ghost use Rattle.std.specs.Io.KnownBytes.{IsAtEnd};
 ghost use Rattle.bp_base.specs.Faults.{last_count, Counts};
 ghost use Rattle.bp_base.specs.Told.{Gains, Loses};
 ghost use Rattle.bp_base.specs.Moves.{read_count, read_bytes, ReadFits, ended_after};
 ghost use Rattle.bp_base.specs.Places.{joined};
-ghost use Rattle.bp_base.specs.Forms.{source_calls, FailsAsListed, pieces_given, pieces_left};
+ghost use Rattle.bp_base.specs.Forms.{source_calls, source_next, steady_next, FailsAsListed, pieces_given, pieces_left};
 
 use crate::calls::Calls;
 use crate::pieces::Pieces;
@@ -83,7 +83,12 @@ impl Source for MemSource {
             ≡ ended_after (⟦<MemSource as Source>⟧.ended self.old) result }
         ensures faults { Counts ⟦<MemSource as Source>⟧.faults self.old self.new
             (result ≡ ReadGot.Failed) }
+
+        // A read fails exactly where its number is listed. Else it gives the next piece that has
+        // bytes left, as much as fits.
         ensures listed { FailsAsListed source_calls self.old self.new (result ≡ ReadGot.Failed) }
+        ensures piece { result ≢ ReadGot.Failed
+            → read_bytes result into.new ≡ take (length into.old) (source_next self.old) }
     {
         if self.calls.next_fails() {
             return ReadGot::Failed;
@@ -140,7 +145,21 @@ impl Source for SteadySource {
 
     ghost ended = { λ s. s.ended };
 
-    fn read(&mut self, into: &mut [u8], _patience: Patience) -> ReadGot {
+    fn read(&mut self, into: &mut [u8], _patience: Patience) -> ReadGot
+        requires { 1 ≤ length into.old }
+        ensures fits { ReadFits result (length into.old) }
+        ensures given { Gains ⟦<SteadySource as Source>⟧.given self.old self.new
+            (read_bytes result into.new) }
+        ensures left { Loses ⟦<SteadySource as Source>⟧.left self.old self.new
+            (read_bytes result into.new) }
+        ensures rest { drop (read_count result) into.new ≡ drop (read_count result) into.old }
+        ensures never_idle { result ≢ ReadGot.Idle }
+        ensures never_fails { result ≢ ReadGot.Failed }
+        ensures at_end { result ≡ ReadGot.End → IsAtEnd (⟦<SteadySource as Source>⟧.left self.new) }
+        ensures ended { ⟦<SteadySource as Source>⟧.ended self.new
+            ≡ ended_after (⟦<SteadySource as Source>⟧.ended self.old) result }
+        ensures piece { read_bytes result into.new ≡ take (length into.old) (steady_next self.old) }
+    {
         let got = self.pieces.give(into);
         self.ended |= got == ReadGot::End;
         got

@@ -1,6 +1,5 @@
 use Rattle.std.proofs.Common.{◌≡◌, ◌++◌, take, drop, [], arith}
 use Rattle.std.proofs.lemmas.Grind.{common_steps}
-use Rattle.std.specs.Io.KnownBytes.{Consumes}
 use Rattle.bp_base.proofs.Telling.{Loses_from_Consumes, Loses_from_Keeps}
 use Rattle.bp_base.proofs.streams.StreamSourceSource.read.Goals as goal
 
