@@ -16,7 +16,8 @@ abbrev pub IsNamed : List (String Global) → Option Command → Type 0
 IsNamed words (Some command) = Names command words
 IsNamed words None = (command : Command) → Names command words → ⊥
 
--- What a command has to write once it is done, by its input, and by what is a report of a schedule.
+-- What a command has to write once it is done, by its input; `Reports s text` is that a text is a
+-- report of a schedule.
 abbrev pub IsDone : (Schedule → List ℕ → Type 0) → Command → List ℕ → List ℕ → Type 0
 IsDone Reports Replay input text = (s : Schedule) × IsInput input s × Reports s text
 
@@ -28,6 +29,6 @@ refused_line number = at_line number (codes "not in the first path")
 abbrev pub IsRefusal : Command → List ℕ → List ℕ → Type 0
 IsRefusal Replay input text = (number : ℕ) × IsBadLine input number × (text ≡ refused_line number)
 
--- a command comes to use its wires
+-- a command comes to use its wires for an input
 abbrev pub MeetsWires : Command → List ℕ → Type 0
 MeetsWires Replay input = (s : Schedule) × IsInput input s

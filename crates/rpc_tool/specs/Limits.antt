@@ -15,6 +15,7 @@ first_event_line = 3
 abbrev pub longest_name : ℕ
 longest_name = 32
 
+-- the greatest version of a procedure
 abbrev pub greatest_version : ℕ
 greatest_version = 127
 

@@ -22,6 +22,7 @@ code_of WireFault = 5
 code_of OutOfMemory = 6
 code_of TooLong = 7
 
+-- the line where words name no command
 abbrev pub usage_line : List ℕ
 usage_line = line (codes "usage: "
     ++ codes "rpc show SHAPE | write SHAPE | frames | menu NAME VERSIONS | replay | gen N")
@@ -90,14 +91,20 @@ IsTroubleCode code = (status : Status) × IsTrouble status × (code ≡ code_of 
 pub record Means (Reports : Schedule → List ℕ → Type 0) (Comes : List ℕ → Type 0)
     (left : Option (List ℕ)) (Writes : List ℕ → Type 0) (words : List (String Global))
     (code : ℕ) : Type 0 where
+  -- the command that the words name, if they name one
   pub command : Option Command
   pub named : IsNamed words command
+  -- the status, of which the code is the answer
   pub status : Status
   pub coded : code ≡ code_of status
+  -- the bytes of input that came
   pub bytes : List ℕ
   pub came : Comes bytes
+  -- they are too many exactly where the status says so
   pub too_long : status ≡ TooLong ↔ most_input < length bytes
+  -- they are the whole input where it was read to its end
   pub whole : IsReadWhole status → IfSome left (λ text. bytes ≡ text)
+  -- what was written
   pub said : IsSaid Reports command bytes Writes status
 
 -- what the status of a command means, whatever words name it
