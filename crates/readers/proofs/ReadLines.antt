@@ -1,7 +1,7 @@
 -- Reading lines gives their values, or the first line that is bad.
 use Rattle.std.proofs.Common.{◌≡◌, refl, ap, ◌∙◌, ℕ, zero, suc, List, [], ◌∷◌}
 use Rattle.readers.specs.Reader.{Outcome, Each, Any, Right, Read, good, refused, to_end}
-use Rattle.readers.specs.Lines.{AreLines, IsFirstBad, onto, read_lines}
+use Rattle.readers.specs.Lines.{AreLines, IsFirstBadLine, onto, read_lines}
 use Rattle.readers.proofs.Readers.{each-any}
 use Rattle.readers.proofs.Ends.{good_is, good_all}
 
@@ -37,12 +37,12 @@ module _ {S W A : Type 0} (V E : S → Type 0) (L : A → List S → Type 0) (R 
   no_value : (l : List S) (n : ℕ) → to_end (r l) ≡ refused n → (a : A) → L a l → ⊥
   no_value l n e a x = let got : to_end (r l) ≡ good a = good_all V E L R r right l a x in cc
 
-  pub lines_bad : (ls : List (List S)) (k : ℕ) → Each (Each V) ls → read_lines r ls ≡ refused k → IsFirstBad L ls k
+  pub lines_bad : (ls : List (List S)) (k : ℕ) → Each (Each V) ls → read_lines r ls ≡ refused k → IsFirstBadLine L ls k
   lines_bad [] k each h = absurd cc
   lines_bad (l ∷ ls) k each h = go k (to_end (r l)) refl (read_lines r ls) h (λ j e. lines_bad ls j each.1 e)
     where
       go : (k : ℕ) (o : Read A) → to_end (r l) ≡ o → (q : Read (List A)) → onto o q ≡ refused k
-          → ((j : ℕ) → q ≡ refused j → IsFirstBad L ls j) → IsFirstBad L (l ∷ ls) k
+          → ((j : ℕ) → q ≡ refused j → IsFirstBadLine L ls j) → IsFirstBadLine L (l ∷ ls) k
       go zero (refused n) e q h rest = no_value l n e
       go (suc k) (refused n) e q h rest = absurd cc
       go k (good a) e (good us) h rest = absurd cc
@@ -51,7 +51,7 @@ module _ {S W A : Type 0} (V E : S → Type 0) (L : A → List S → Type 0) (R 
           let jk : j ≡ k = cc in
           ((a, good_is V E L R r right l a each.0 e), rest k (ap (λ x. refused x) jk))
 
-  pub bad_lines : (ls : List (List S)) (k : ℕ) → Each (Each V) ls → IsFirstBad L ls k → read_lines r ls ≡ refused k
+  pub bad_lines : (ls : List (List S)) (k : ℕ) → Each (Each V) ls → IsFirstBadLine L ls k → read_lines r ls ≡ refused k
   bad_lines [] k each x = absurd x
   bad_lines (l ∷ ls) zero each x = go (to_end (r l)) refl
     where

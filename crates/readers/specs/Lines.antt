@@ -10,10 +10,10 @@ AreLines L (a ∷ vs) [] = ⊥
 AreLines L (a ∷ vs) (l ∷ ls) = L a l × AreLines L vs ls
 
 -- the line k, counted from 0, is the first that is no text
-abbrev pub IsFirstBad : {S A : Type 0} → (A → List S → Type 0) → List (List S) → ℕ → Type 0
-IsFirstBad L [] k = ⊥
-IsFirstBad {A = A} L (l ∷ ls) zero = (a : A) → L a l → ⊥
-IsFirstBad {A = A} L (l ∷ ls) (suc k) = ((a : A) × L a l) × IsFirstBad L ls k
+abbrev pub IsFirstBadLine : {S A : Type 0} → (A → List S → Type 0) → List (List S) → ℕ → Type 0
+IsFirstBadLine L [] k = ⊥
+IsFirstBadLine {A = A} L (l ∷ ls) zero = (a : A) → L a l → ⊥
+IsFirstBadLine {A = A} L (l ∷ ls) (suc k) = ((a : A) × L a l) × IsFirstBadLine L ls k
 
 abbrev pub onto : {A : Type 0} → Read A → Read (List A) → Read (List A)
 onto (refused n) r = refused 0

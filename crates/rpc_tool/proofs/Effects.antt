@@ -11,7 +11,7 @@ use Rattle.rpc_world.specs.declared.schedule.Event.TheVariants.{Ask, Reply, Up, 
 use Rattle.rpc_world.specs.Stream.{header, message, query_lead, response_lead, IsText}
 use Rattle.rpc_world.specs.World.{World, query, response, up_stream, down_stream, arrived_up, is_waiting, effect, moved_of}
 use Rattle.rpc_tool.specs.declared.pair.Pair.{Pair}
-use Rattle.rpc_tool.specs.Stands.{Flows, Stands, labels_of}
+use Rattle.rpc_tool.specs.Stands.{Flows, StandsFor, labels_of}
 use Rattle.rpc_tool.proofs.Standing.{flows_as, one_of, flows_more, came_length, flows_moved, whole_few}
 
 stream_more : (frame_of : List ℕ → List ℕ) (texts : List (List ℕ)) (text : List ℕ)
@@ -28,14 +28,14 @@ all_one text is_text zero d within = is_text
 all_one text is_text (suc k) d within = absurd (omega arith)
 
 pub asked : (p p' : Pair) (w : World) (us ug us' ug' ds dg : Option (List ℕ))
-    (label name text : List ℕ) (version : ℕ) → Stands p w us ug ds dg
+    (label name text : List ℕ) (version : ℕ) → StandsFor p w us ug ds dg
     → p.client.label ≡ None → IsText text
     → us' ≡ append_known us (message (query_lead p.name p.version) text) → ug' ≡ ug
     → p'.name ≡ p.name → p'.version ≡ p.version → p'.client.label ≡ Some label
     → p'.client.inbox.bytes.items ≡ p.client.inbox.bytes.items
     → p'.client.put ≡ p.client.put + length (message (query_lead p.name p.version) text)
     → p'.server ≡ p.server
-    → Stands p' (effect w (Ask label name version text)) us' ug' ds dg
+    → StandsFor p' (effect w (Ask label name version text)) us' ug' ds dg
 asked p p' w us ug us' ug' ds dg label name text version stands fresh is_text appends keeps
     same_name same_version labelled same_bytes put same_server =
     let spelled : message (query_lead p.name p.version) text ≡ query w text =
@@ -62,13 +62,13 @@ asked p p' w us ug us' ug' ds dg label name text version stands fresh is_text ap
     }
 
 pub responded : (p p' : Pair) (w : World) (us ug ds dg ds' dg' : Option (List ℕ))
-    (label text : List ℕ) → Stands p w us ug ds dg
+    (label text : List ℕ) → StandsFor p w us ug ds dg
     → p.server.answered ≡ false → is_waiting w ≡ true → IsText text
     → ds' ≡ append_known ds (message response_lead text) → dg' ≡ dg
     → p'.name ≡ p.name → p'.version ≡ p.version → p'.server.answered ≡ true
     → p'.server.inbox ≡ p.server.inbox
     → p'.server.put ≡ p.server.put + length (message response_lead text) → p'.client ≡ p.client
-    → Stands p' (effect w (Reply label text)) us ug ds' dg'
+    → StandsFor p' (effect w (Reply label text)) us ug ds' dg'
 responded p p' w us ug ds dg ds' dg' label text stands fresh waits is_text appends keeps same_name
     same_version answered same_inbox put same_client =
     let none : length w.downs ≡ 0 = stands.answered ∙ one_of p.server.answered fresh in
@@ -106,7 +106,7 @@ moved_fits None room = omega arith
 moved_fits (Some n) room = omega arith
 
 pub up_fits : (p : Pair) (w : World) (us ug ds dg : Option (List ℕ)) (count : Option ℕ)
-    → Stands p w us ug ds dg
+    → StandsFor p w us ug ds dg
     → length p.server.inbox.bytes.items + moved_of count
     (p.client.put - length p.server.inbox.bytes.items) ≤ length (up_stream w)
 up_fits p w us ug ds dg count stands =
@@ -115,7 +115,7 @@ up_fits p w us ug ds dg count stands =
     let inside = stands.up.within in omega arith
 
 pub down_fits : (p : Pair) (w : World) (us ug ds dg : Option (List ℕ)) (count : Option ℕ)
-    → Stands p w us ug ds dg
+    → StandsFor p w us ug ds dg
     → length p.client.inbox.bytes.items + moved_of count
     (p.server.put - length p.client.inbox.bytes.items) ≤ length (down_stream w)
 down_fits p w us ug ds dg count stands =
@@ -124,14 +124,14 @@ down_fits p w us ug ds dg count stands =
     let inside = stands.down.within in omega arith
 
 pub moved_up : (p p' : Pair) (w : World) (us ug us' ug' ds dg : Option (List ℕ)) (count : Option ℕ)
-    (by : ℕ) → Stands p w us ug ds dg → us' ≡ us
+    (by : ℕ) → StandsFor p w us ug ds dg → us' ≡ us
     → ug' ≡ Some p'.server.inbox.bytes.items
     → p'.server.inbox.bytes.items
     ≡ take (length p.server.inbox.bytes.items + moved_of count
     (p.client.put - length p.server.inbox.bytes.items)) (up_stream w)
     → p'.name ≡ p.name → p'.version ≡ p.version → p'.client ≡ p.client
     → p'.server.answered ≡ p.server.answered → p'.server.put ≡ p.server.put
-    → Stands p' (effect w (Up count by)) us' ug' ds dg
+    → StandsFor p' (effect w (Up count by)) us' ug' ds dg
 moved_up p p' w us ug us' ug' ds dg count by stands keeps told came same_name same_version
     same_client same_answered same_put =
     let number = still_in_flight _ _ _ _ _ _ count stands.up in
@@ -156,14 +156,14 @@ moved_up p p' w us ug us' ug' ds dg count by stands keeps told came same_name sa
     }
 
 pub moved_down : (p p' : Pair) (w : World) (us ug ds dg ds' dg' : Option (List ℕ))
-    (count : Option ℕ) (by : ℕ) → Stands p w us ug ds dg → ds' ≡ ds
+    (count : Option ℕ) (by : ℕ) → StandsFor p w us ug ds dg → ds' ≡ ds
     → dg' ≡ Some p'.client.inbox.bytes.items
     → p'.client.inbox.bytes.items
     ≡ take (length p.client.inbox.bytes.items + moved_of count
     (p.server.put - length p.client.inbox.bytes.items)) (down_stream w)
     → p'.name ≡ p.name → p'.version ≡ p.version → p'.server ≡ p.server
     → p'.client.label ≡ p.client.label → p'.client.put ≡ p.client.put
-    → Stands p' (effect w (Down count by)) us ug ds' dg'
+    → StandsFor p' (effect w (Down count by)) us ug ds' dg'
 moved_down p p' w us ug ds dg ds' dg' count by stands keeps told came same_name same_version
     same_server same_label same_put =
     let number = still_in_flight _ _ _ _ _ _ count stands.down in

@@ -9,10 +9,10 @@ use Rattle.rpc_world.specs.declared.schedule.Event.{Event}
 use Rattle.rpc_world.specs.declared.schedule.Event.TheVariants.{Ask, Reply, Up, Down}
 use Rattle.rpc_world.specs.declared.schedule.Refusal.{Refusal}
 use Rattle.rpc_world.specs.Input.{is_ask}
-use Rattle.rpc_world.specs.World.{World, step, after, refusal}
-use Rattle.rpc_world.specs.Report.{at_line, refusal_text, answer_lines, answers_of}
+use Rattle.rpc_world.specs.World.{World, step, world_after, refusal}
+use Rattle.rpc_world.specs.Report.{line_about, refusal_text, answer_lines, answers_of}
 use Rattle.rpc_tool.specs.declared.pair.Pair.{Pair}
-use Rattle.rpc_tool.specs.Stands.{MayStep, LabelAfter, Stands}
+use Rattle.rpc_tool.specs.Stands.{MayStep, LabelAfter, StandsFor}
 use Rattle.rpc_tool.specs.Replayed.{IsAsked, AreAnswers, asked_label}
 
 -- ---- one more event
@@ -102,7 +102,7 @@ answer_lines_push number [] answer = let same : number ≡ number + 0 = omega ar
 answer_lines_push number (None ∷ answers) answer =
     answer_lines_rest number answers answer (answer_lines_push (number + 1) answers answer)
 answer_lines_push number (Some reason ∷ answers) answer =
-    let first = at_line number (refusal_text reason) in
+    let first = line_about number (refusal_text reason) in
     ap (λ s. first ++ s)
     (answer_lines_rest number answers answer (answer_lines_push (number + 1) answers answer))
     ∙ sym (append_assoc first (answer_lines (number + 1) answers)
@@ -120,12 +120,12 @@ answers_next report report' i answer before more = record {
 }
 
 pub after_next : (w : World) (events : List Event) (event : Event)
-    → after w (events ++ event ∷ []) ≡ step (after w events) event
+    → world_after w (events ++ event ∷ []) ≡ step (world_after w events) event
 after_next w events event = fold-append step w events (event ∷ [])
 
 answers_of_next : (w : World) (events : List Event) (event : Event)
     → answers_of w (events ++ event ∷ []) ≡ answers_of w events
-    ++ refusal (after w events) event ∷ []
+    ++ refusal (world_after w events) event ∷ []
 answers_of_next w [] event = refl
 answers_of_next w (e ∷ events) event =
     ap (λ answers. refusal w e ∷ answers) (answers_of_next (step w e) events event)
@@ -137,7 +137,7 @@ length-answers_of w (e ∷ events) = ap suc (length-answers_of (step w e) events
 -- the report grows by the world's answer
 pub report_next : (w : World) (events : List Event) (event : Event) (i : ℕ)
     (report report' : List ℕ) (answer : Option Refusal) → length events ≡ i
-    → report ≡ answer_lines 3 (answers_of w events) → answer ≡ refusal (after w events) event
+    → report ≡ answer_lines 3 (answers_of w events) → answer ≡ refusal (world_after w events) event
     → report' ≡ report ++ answer_lines (3 + i) (answer ∷ [])
     → report' ≡ answer_lines 3 (answers_of w (events ++ event ∷ []))
 report_next w events event i report report' answer long before is more =
@@ -153,11 +153,13 @@ pub world_next : (p : Pair) (w : World) (now before : List Event) (event : Event
     (report report' : List ℕ) (answer : Option Refusal)
     (us ug ds dg : Option (List ℕ)) → now ≡ before ++ event ∷ [] → length before ≡ i
     → report ≡ answer_lines 3 (answers_of w before)
-    → (answer ≡ refusal (after w before) event) × Stands p (step (after w before) event) us ug ds dg
+    → (answer ≡ refusal (world_after w before) event)
+    × StandsFor p (step (world_after w before) event) us ug ds dg
     → report' ≡ report ++ answer_lines (3 + i) (answer ∷ [])
-    → Stands p (after w now) us ug ds dg × (report' ≡ answer_lines 3 (answers_of w now))
+    → StandsFor p (world_after w now) us ug ds dg × (report' ≡ answer_lines 3 (answers_of w now))
 world_next p w now before event i report report' answer us ug ds dg is long lines stepped more = (
-  subst (λ v. Stands p v us ug ds dg) (sym (ap (after w) is ∙ after_next w before event)) stepped.1,
+  subst (λ v. StandsFor p v us ug ds dg)
+      (sym (ap (world_after w) is ∙ after_next w before event)) stepped.1,
   report_next w before event i report report' answer long lines stepped.0 more
       ∙ ap (λ events. answer_lines 3 (answers_of w events)) (sym is),
 )

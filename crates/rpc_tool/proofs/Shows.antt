@@ -7,7 +7,7 @@ use denote.Bor.{Bor}
 use Rattle.rpc_world.specs.declared.schedule.EndState.{EndState}
 use Rattle.rpc_world.specs.declared.schedule.EndState.TheVariants.{Opening, Open, Closed}
 use Rattle.rpc_world.specs.Stream.{header, message, response_lead, IsText, IsFront, BeginsWith}
-use Rattle.rpc_world.specs.World.{World, response, whole, first_world, after}
+use Rattle.rpc_world.specs.World.{World, response, whole, first_world, world_after}
 use Rattle.rpc_world.specs.Report.{answer_lines, answers_of, shown_of, end_state, IsEndState, Shown, line, dispatch_line, dispatch_lines, reply_line, end_text, moved_line, closing_lines}
 use Rattle.rpc_tool.specs.declared.pair.Pair.{Pair}
 use Rattle.rpc_tool.specs.Heads.{IsGivenText}
@@ -15,7 +15,7 @@ use Rattle.rpc_world.specs.declared.schedule.Event.{Event}
 use Rattle.rpc_world.specs.declared.schedule.Schedule.{Schedule}
 use Rattle.rpc_tool.specs.Replayed.{last_world, IsReplayed, IsReported, IsAsked, AreAnswers, asked_label, awaited_with}
 use Rattle.rpc_tool.specs.Kept.{awaited_of}
-use Rattle.rpc_tool.specs.Stands.{labels_of, Stands, Tells}
+use Rattle.rpc_tool.specs.Stands.{labels_of, StandsFor, TellsPair}
 use Rattle.std.proofs.lemmas.List.{append_cancel_left}
 use Rattle.rpc_tool.proofs.Same.{same_message}
 use Rattle.rpc_tool.proofs.Standing.{whole_few, given_whole, whole_given, client_front, server_front, opened, served, came_length}
@@ -110,7 +110,7 @@ replies_are (Some label) bytes downs (text ∷ []) moved texts few within came g
 replies_are label bytes downs (text ∷ other ∷ more) moved texts few within came many = absurd many
 
 pub shown_is : (p : Pair) (w : World) (us ug ds dg : Option (List ℕ)) (s : Shown)
-    → Stands p w us ug ds dg → IsShownBy p s → s ≡ shown_of w
+    → StandsFor p w us ug ds dg → IsShownBy p s → s ≡ shown_of w
 shown_is p w us ug ds dg s stands shown = shown_same s (shown_of w)
     (shown.name ∙ sym stands.name) (shown.version ∙ sym stands.version)
     (shown.made ∙ sym stands.made)
@@ -131,12 +131,13 @@ shown_is p w us ug ds dg s stands shown = shown_same s (shown_of w)
 -- over honest wires
 pub replayed : (p : Pair) (s : Schedule) (events : List Event) (shown : Shown)
     (lines report : List ℕ) (us ug ds dg : Option (List ℕ)) → events ≡ s.events
-    → Stands p (after (first_world s.name s.version) events) us ug ds dg
+    → StandsFor p (world_after (first_world s.name s.version) events) us ug ds dg
     × (lines ≡ answer_lines 3 (answers_of (first_world s.name s.version) events))
     → IsShownBy p shown → report ≡ lines ++ closing_lines shown → IsReplayed s report us ug ds dg
 replayed p s events shown lines report us ug ds dg all last is_shown closed =
-    let stands : Stands p (last_world s) us ug ds dg =
-    subst (λ e. Stands p (after (first_world s.name s.version) e) us ug ds dg) all last.0 in
+    let stands : StandsFor p (last_world s) us ug ds dg =
+    subst (λ e. StandsFor p (world_after (first_world s.name s.version) e) us ug ds dg) all
+    last.0 in
     let answered : lines ≡ answer_lines 3 (answers_of (first_world s.name s.version) s.events) =
     last.1 ∙ ap (λ e. answer_lines 3 (answers_of (first_world s.name s.version) e)) all in
     record {
@@ -193,7 +194,7 @@ seen_reply (Some label) bytes text (t ∷ []) given = (
 seen_reply (Some label) bytes text (t ∷ u ∷ more) many = absurd many
 
 pub reported : (p : Pair) (s : Schedule) (shown : Shown) (lines report : List ℕ)
-    (us ug ds dg : Option (List ℕ)) → Tells p us ug ds dg
+    (us ug ds dg : Option (List ℕ)) → TellsPair p us ug ds dg
     → p.name ≡ s.name → p.version ≡ s.version → IsAsked p.client.label s.events
     → AreAnswers lines (length s.events)
     → IsShownBy p shown → report ≡ lines ++ closing_lines shown → IsReported s report us ug ds dg

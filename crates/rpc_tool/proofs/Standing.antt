@@ -14,7 +14,7 @@ use Rattle.rpc_world.specs.Stream.{header, message, query_lead, response_lead, I
 use Rattle.rpc_world.specs.World.{World, query, response, up_stream, down_stream, whole, arrived_up, is_client_open, is_server_open, is_waiting, refusal, effect, step}
 use Rattle.rpc_tool.specs.declared.pair.Pair.{Pair}
 use Rattle.rpc_tool.specs.Kept.{awaited_of, Waits}
-use Rattle.rpc_tool.specs.Stands.{Flows, Stands, labels_of}
+use Rattle.rpc_tool.specs.Stands.{Flows, StandsFor, labels_of}
 use Rattle.rpc_tool.proofs.Same.{same_message}
 use Rattle.rpc_tool.specs.Heads.{IsGivenText}
 use Rattle.rpc_tool.proofs.Texts.{front_taken, message_long}
@@ -193,24 +193,25 @@ goes w event fine = rw fine refl
 
 pub refused : (p : Pair) (w : World) (us ug ds dg : Option (List ℕ)) (event : Event)
     (reason : Refusal) → refusal w event ≡ Some reason
-    → Stands p w us ug ds dg → (Some reason ≡ refusal w event) × Stands p (step w event) us ug ds dg
+    → StandsFor p w us ug ds dg
+    → (Some reason ≡ refusal w event) × StandsFor p (step w event) us ug ds dg
 refused p w us ug ds dg event reason why stands =
-    (sym why, subst (λ v. Stands p v us ug ds dg) (sym (stays w event reason why)) stands)
+    (sym why, subst (λ v. StandsFor p v us ug ds dg) (sym (stays w event reason why)) stands)
 
 pub went : (p : Pair) (w : World) (us ug ds dg : Option (List ℕ)) (event : Event)
     → refusal w event ≡ None
-    → Stands p (effect w event) us ug ds dg → (None ≡ refusal w event)
-    × Stands p (step w event) us ug ds dg
+    → StandsFor p (effect w event) us ug ds dg → (None ≡ refusal w event)
+    × StandsFor p (step w event) us ug ds dg
 went p w us ug ds dg event fine stands =
-    (sym fine, subst (λ v. Stands p v us ug ds dg) (sym (goes w event fine)) stands)
+    (sym fine, subst (λ v. StandsFor p v us ug ds dg) (sym (goes w event fine)) stands)
 
 -- an event that is never refused, by another name
 pub moved_step : (p : Pair) (w : World) (us ug ds dg : Option (List ℕ)) (event event' : Event)
     → event ≡ event' → refusal w event ≡ None
-    → Stands p (effect w event) us ug ds dg → (None ≡ refusal w event')
-    × Stands p (step w event') us ug ds dg
+    → StandsFor p (effect w event) us ug ds dg → (None ≡ refusal w event')
+    × StandsFor p (step w event') us ug ds dg
 moved_step p w us ug ds dg event event' same fine stands =
-    subst (λ e. (None ≡ refusal w e) × Stands p (step w e) us ug ds dg) same
+    subst (λ e. (None ≡ refusal w e) × StandsFor p (step w e) us ug ds dg) same
     (went p w us ug ds dg event fine stands)
 
 -- ---- fronts
@@ -219,13 +220,14 @@ labels_few : (label : Option (List ℕ)) → length (labels_of label) ≤ 1
 labels_few None = omega arith
 labels_few (Some label) = omega arith
 
-ups_few : (p : Pair) (w : World) (us ug ds dg : Option (List ℕ)) → Stands p w us ug ds dg
+ups_few : (p : Pair) (w : World) (us ug ds dg : Option (List ℕ)) → StandsFor p w us ug ds dg
     → length w.ups ≤ 1
 ups_few p w us ug ds dg stands =
     let asked = stands.asked in let made = ap length stands.made in
     let few = labels_few p.client.label in omega arith
 
-pub server_stream : (p : Pair) (w : World) (us ug ds dg : Option (List ℕ)) → Stands p w us ug ds dg
+pub server_stream : (p : Pair) (w : World) (us ug ds dg : Option (List ℕ))
+    → StandsFor p w us ug ds dg
     → IsFront p.server.inbox.awaited (up_stream w)
 server_stream p w us ug ds dg stands =
     let lead : query_lead p.name p.version ≡ query_lead w.name w.version =
@@ -240,21 +242,24 @@ down_front : (label : Option (List ℕ)) (downs : List (List ℕ)) → All IsTex
 down_front None downs all few = header_front downs response_lead (omega arith)
 down_front (Some label) downs all few = stream_front response_lead downs all few
 
-pub client_stream : (p : Pair) (w : World) (us ug ds dg : Option (List ℕ)) → Stands p w us ug ds dg
+pub client_stream : (p : Pair) (w : World) (us ug ds dg : Option (List ℕ))
+    → StandsFor p w us ug ds dg
     → IsFront p.client.inbox.awaited (down_stream w)
 client_stream p w us ug ds dg stands =
     let turn = stands.in_turn in let asked = stands.asked in let made = ap length stands.made in
     subst (λ awaited. IsFront awaited (down_stream w)) (sym p.client.awaits)
     (down_front p.client.label w.downs stands.responses (omega arith))
 
-pub server_front : (p : Pair) (w : World) (us ug ds dg : Option (List ℕ)) → Stands p w us ug ds dg
+pub server_front : (p : Pair) (w : World) (us ug ds dg : Option (List ℕ))
+    → StandsFor p w us ug ds dg
     → IsFront p.server.inbox.awaited p.server.inbox.bytes.items
 server_front p w us ug ds dg stands =
     subst (λ bytes. IsFront p.server.inbox.awaited bytes) (sym stands.up.came)
     (front_taken p.server.inbox.awaited w.up_moved (up_stream w)
     (server_stream p w us ug ds dg stands))
 
-pub client_front : (p : Pair) (w : World) (us ug ds dg : Option (List ℕ)) → Stands p w us ug ds dg
+pub client_front : (p : Pair) (w : World) (us ug ds dg : Option (List ℕ))
+    → StandsFor p w us ug ds dg
     → IsFront p.client.inbox.awaited p.client.inbox.bytes.items
 client_front p w us ug ds dg stands =
     subst (λ bytes. IsFront p.client.inbox.awaited bytes) (sym stands.down.came)
@@ -263,26 +268,26 @@ client_front p w us ug ds dg stands =
 
 -- ---- what is tested
 
-pub opened : (p : Pair) (w : World) (us ug ds dg : Option (List ℕ)) → Stands p w us ug ds dg
+pub opened : (p : Pair) (w : World) (us ug ds dg : Option (List ℕ)) → StandsFor p w us ug ds dg
     → nat_le (length header) (length p.client.inbox.bytes.items) ≡ is_client_open w
 opened p w us ug ds dg stands =
     ap (λ n. nat_le (length header) n) (came_length _ _ _ _ _ _ stands.down)
 
-pub served : (p : Pair) (w : World) (us ug ds dg : Option (List ℕ)) → Stands p w us ug ds dg
+pub served : (p : Pair) (w : World) (us ug ds dg : Option (List ℕ)) → StandsFor p w us ug ds dg
     → nat_le (length header) (length p.server.inbox.bytes.items) ≡ is_server_open w
 served p w us ug ds dg stands =
     ap (λ n. nat_le (length header) n) (came_length _ _ _ _ _ _ stands.up)
 
 -- a test of a procedure, of the header and of a label, as the refusals make them
 pub unknown : (p : Pair) (w : World) (us ug ds dg : Option (List ℕ)) (label name text : List ℕ)
-    (version : ℕ) → Stands p w us ug ds dg
+    (version : ℕ) → StandsFor p w us ug ds dg
     → (bytes_eq name p.name && nat_eq version p.version) ≡ false
     → refusal w (Ask label name version text) ≡ Some NoSuchRpc
 unknown p w us ug ds dg label name text version stands test =
     rw (stands.name, stands.version, test) refl
 
 pub early : (p : Pair) (w : World) (us ug ds dg : Option (List ℕ)) (label name text : List ℕ)
-    (version : ℕ) → Stands p w us ug ds dg
+    (version : ℕ) → StandsFor p w us ug ds dg
     → (bytes_eq name p.name && nat_eq version p.version) ≡ true
     → nat_le (length header) (length p.client.inbox.bytes.items) ≡ false
     → refusal w (Ask label name version text) ≡ Some NotOpen
@@ -291,7 +296,7 @@ early p w us ug ds dg label name text version stands test closed =
     rw (stands.name, stands.version, test, open_) refl
 
 pub askable : (p : Pair) (w : World) (us ug ds dg : Option (List ℕ)) (label name text : List ℕ)
-    (version : ℕ) → Stands p w us ug ds dg
+    (version : ℕ) → StandsFor p w us ug ds dg
     → (bytes_eq name p.name && nat_eq version p.version) ≡ true
     → nat_le (length header) (length p.client.inbox.bytes.items) ≡ true
     → refusal w (Ask label name version text) ≡ None
@@ -300,19 +305,19 @@ askable p w us ug ds dg label name text version stands test closed =
     rw (stands.name, stands.version, test, open_) refl
 
 pub unlabelled : (p : Pair) (w : World) (us ug ds dg : Option (List ℕ)) (label text : List ℕ)
-    → Stands p w us ug ds dg
+    → StandsFor p w us ug ds dg
     → list_any (bytes_eq label) (labels_of p.client.label) ≡ false
     → refusal w (Reply label text) ≡ Some NoSuchLabel
 unlabelled p w us ug ds dg label text stands test = rw (stands.made, test) refl
 
 pub unasked : (p : Pair) (w : World) (us ug ds dg : Option (List ℕ)) (label text : List ℕ)
-    → Stands p w us ug ds dg
+    → StandsFor p w us ug ds dg
     → list_any (bytes_eq label) (labels_of p.client.label) ≡ true → is_waiting w ≡ false
     → refusal w (Reply label text) ≡ Some NoSuch
 unasked p w us ug ds dg label text stands test none = rw (stands.made, test, none) refl
 
 pub answerable : (p : Pair) (w : World) (us ug ds dg : Option (List ℕ)) (label text : List ℕ)
-    → Stands p w us ug ds dg
+    → StandsFor p w us ug ds dg
     → list_any (bytes_eq label) (labels_of p.client.label) ≡ true → is_waiting w ≡ true
     → refusal w (Reply label text) ≡ None
 answerable p w us ug ds dg label text stands test some = rw (stands.made, test, some) refl
@@ -329,13 +334,13 @@ whole_few frame_of (t ∷ ts) n = elim (cases_lt n (length (frame_of t))) [
       rw (le-leb (length (frame_of t)) n fits) (omega arith)
 ]
 
-awaits_query : (p : Pair) (w : World) (us ug ds dg : Option (List ℕ)) → Stands p w us ug ds dg
+awaits_query : (p : Pair) (w : World) (us ug ds dg : Option (List ℕ)) → StandsFor p w us ug ds dg
     → p.server.inbox.awaited ≡ Some (query_lead w.name w.version)
 awaits_query p w us ug ds dg stands =
     p.awaits ∙ ap (λ l. Some l) (rw (stands.name, stands.version) refl)
 
 arrived : (p : Pair) (w : World) (us ug ds dg : Option (List ℕ)) (text : List ℕ)
-    → Stands p w us ug ds dg
+    → StandsFor p w us ug ds dg
     → IsGivenText p.server.inbox.awaited p.server.inbox.bytes.items text → arrived_up w ≡ text ∷ []
 arrived p w us ug ds dg text stands given =
     given_whole (query_lead w.name w.version) p.server.inbox.bytes.items text w.ups w.up_moved
@@ -344,7 +349,7 @@ arrived p w us ug ds dg text stands given =
     (awaits_query p w us ug ds dg stands) given)
 
 arrives : (p : Pair) (w : World) (us ug ds dg : Option (List ℕ)) (text : List ℕ)
-    (more : List (List ℕ)) → Stands p w us ug ds dg
+    (more : List (List ℕ)) → StandsFor p w us ug ds dg
     → arrived_up w ≡ text ∷ more
     → IsGivenText p.server.inbox.awaited p.server.inbox.bytes.items text
 arrives p w us ug ds dg text more stands is =
@@ -360,7 +365,7 @@ none_of : (answered : Bool) (n : ℕ) → n ≡ (if answered then 1 else 0) → 
 none_of false n is none = refl
 none_of true n is none = absurd (omega arith)
 
-pub waiting : (p : Pair) (w : World) (us ug ds dg : Option (List ℕ)) → Stands p w us ug ds dg
+pub waiting : (p : Pair) (w : World) (us ug ds dg : Option (List ℕ)) → StandsFor p w us ug ds dg
     → Waits p.server.answered p.server.inbox.awaited p.server.inbox.bytes.items
     → is_waiting w ≡ true
 waiting p w us ug ds dg stands (no_answer, (text, given)) =
@@ -373,7 +378,7 @@ first_of : (texts : List (List ℕ)) → 0 < length texts → (text : List ℕ) 
 first_of [] some = absurd (omega arith)
 first_of (t ∷ ts) some = (t, ts, refl)
 
-pub not_waiting : (p : Pair) (w : World) (us ug ds dg : Option (List ℕ)) → Stands p w us ug ds dg
+pub not_waiting : (p : Pair) (w : World) (us ug ds dg : Option (List ℕ)) → StandsFor p w us ug ds dg
     → (Waits p.server.answered p.server.inbox.awaited p.server.inbox.bytes.items → ⊥)
     → is_waiting w ≡ false
 not_waiting p w us ug ds dg stands idle =

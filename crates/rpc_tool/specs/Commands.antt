@@ -3,7 +3,7 @@ use Rattle.std.specs.Prelude.{Option, Some, None, ◌≡◌, ℕ, List, [], ◌�
 use Rattle.std.specs.declared.alloc.Global.{Global}
 use Rattle.rpc_world.specs.declared.schedule.Schedule.{Schedule}
 use Rattle.rpc_world.specs.Input.{IsInput, IsBadLine}
-use Rattle.rpc_world.specs.Report.{at_line}
+use Rattle.rpc_world.specs.Report.{line_about}
 use Rattle.rpc_tool.specs.declared.command.Command.{Command}
 use Rattle.rpc_tool.specs.declared.command.Command.TheVariants.{Replay}
 
@@ -23,7 +23,7 @@ IsDone Reports Replay input text = (s : Schedule) × IsInput input s × Reports 
 
 -- the line about a line of a schedule that is none
 abbrev pub refused_line : ℕ → List ℕ
-refused_line number = at_line number (codes "not in the first path")
+refused_line number = line_about number (codes "not in the first path")
 
 -- what a command has to write where it refuses its input
 abbrev pub IsRefusal : Command → List ℕ → List ℕ → Type 0

@@ -12,8 +12,8 @@ abbrev pub first_event_line : ℕ
 first_event_line = 3
 
 -- how many letters a name or a label has at most
-abbrev pub longest_name : ℕ
-longest_name = 32
+abbrev pub most_name_letters : ℕ
+most_name_letters = 32
 
 -- the greatest version of a procedure
 abbrev pub greatest_version : ℕ

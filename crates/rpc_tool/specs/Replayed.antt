@@ -7,7 +7,7 @@ use Rattle.rpc_world.specs.declared.schedule.Event.TheVariants.{Ask, Reply, Up, 
 use Rattle.rpc_world.specs.declared.schedule.Refusal.{Refusal}
 use Rattle.rpc_world.specs.declared.schedule.Schedule.{Schedule}
 use Rattle.rpc_world.specs.Stream.{header, response_lead, query_lead, message, IsText, BeginsWith}
-use Rattle.rpc_world.specs.World.{World, first_world, after, up_stream, down_stream}
+use Rattle.rpc_world.specs.World.{World, first_world, world_after, up_stream, down_stream}
 use Rattle.rpc_tool.specs.Limits.{first_event_line}
 use Rattle.rpc_world.specs.Report.{Shown, answer_lines, closing_lines, replay_text, IsEndState}
 
@@ -31,7 +31,7 @@ pub record HonestOver {W : Type 0} (is_honest : W → Type 0) (sent given : W �
 
 -- the world after all events of a schedule
 abbrev pub last_world : Schedule → World
-last_world s = after (first_world s.name s.version) s.events
+last_world s = world_after (first_world s.name s.version) s.events
 
 -- Over honest wires: the report is the schedule's, and the wires have sent and given what the last
 -- world says.

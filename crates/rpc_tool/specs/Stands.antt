@@ -24,7 +24,7 @@ pub record Flows (put : ℕ) (bytes stream : List ℕ) (moved : ℕ)
   pub told_given : given ≡ Some bytes
 
 -- the pair stands for the world, and its wires tell the world's streams
-pub record Stands (p : Pair) (w : World)
+pub record StandsFor (p : Pair) (w : World)
     (up_sent up_given down_sent down_given : Option (List ℕ)) : Type 0 where
   pub name : w.name ≡ p.name
   pub version : w.version ≡ p.version
@@ -41,7 +41,7 @@ pub record Stands (p : Pair) (w : World)
 -- the same of the two wires, by what they tell
 abbrev pub StandsOver : {W : Type 0} → (W → Option (List ℕ)) → (W → Option (List ℕ)) → Pair
     → World → W → W → Type 0
-StandsOver sent given p w up down = Stands p w (sent up) (given up) (sent down) (given down)
+StandsOver sent given p w up down = StandsFor p w (sent up) (given up) (sent down) (given down)
 
 -- The answer to an event, if there is one, is the world's, and the pair stands for the world after
 -- it.
@@ -60,13 +60,14 @@ pub record Carries (put : ℕ) (bytes : List ℕ) (sent given : Option (List ℕ
   pub counted : length written ≡ put
 
 -- the wires tell their bytes, and the ends have what they gave
-pub record Tells (p : Pair) (up_sent up_given down_sent down_given : Option (List ℕ)) : Type 0 where
+pub record TellsPair (p : Pair)
+    (up_sent up_given down_sent down_given : Option (List ℕ)) : Type 0 where
   pub up : Carries p.client.put p.server.inbox.bytes.items up_sent up_given
   pub down : Carries p.server.put p.client.inbox.bytes.items down_sent down_given
 
 abbrev pub TellsOver : {W : Type 0} → (W → Option (List ℕ)) → (W → Option (List ℕ)) → Pair
     → W → W → Type 0
-TellsOver sent given p up down = Tells p (sent up) (given up) (sent down) (given down)
+TellsOver sent given p up down = TellsPair p (sent up) (given up) (sent down) (given down)
 
 -- a client that made its dispatch is asked for no other
 abbrev pub MayStep : Option (List ℕ) → Event → Type 0

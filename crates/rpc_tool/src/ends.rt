@@ -3,7 +3,7 @@ ghost use Rattle.std.specs.Prelude.{Option, Some, None, Bool, true, false, [], �
 ghost use Rattle.bp_base.specs.Faults.{GoesOn};
 ghost use Rattle.bp_base.specs.Told.{Gains};
 ghost use Rattle.rpc_world.specs.Stream.{header, message, query_lead, response_lead, IsText};
-ghost use Rattle.rpc_tool.specs.Limits.{header_length, most_put, longest_lead, longest_name};
+ghost use Rattle.rpc_tool.specs.Limits.{header_length, most_put, longest_lead, most_name_letters};
 ghost use Rattle.rpc_tool.specs.Kept.{awaited_of, Waits};
 ghost use Rattle.rpc_tool.specs.declared.failure.Failure.TheVariants as failure;
 
@@ -99,7 +99,7 @@ impl Server {
         version: u8,
         down: &mut W,
     ) -> Result<Server, Failure>
-        requires { length name.now ≤ longest_name }
+        requires { length name.now ≤ most_name_letters }
         ensures sent { OnOk result (Gains W.sent down.old down.new header) }
         ensures given { W.given down.new ≡ W.given down.old }
         ensures wire { GoesOn W.faults W.honest down.old down.new

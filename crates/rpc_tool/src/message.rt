@@ -2,7 +2,7 @@
 ghost use Rattle.std.specs.Prelude.{◌≡◌, ◌+◌, ◌≤◌, ◌++◌, length, IfOk, OnOk};
 ghost use Rattle.bp_num.specs.Forms.{written_nat};
 ghost use Rattle.rpc_world.specs.Stream.{message, query_lead};
-ghost use Rattle.rpc_tool.specs.Limits.{longest_name, longest_lead, longest_text, longest_data, longest_body, longest_frame, greatest_nat0};
+ghost use Rattle.rpc_tool.specs.Limits.{most_name_letters, longest_lead, longest_text, longest_data, longest_body, longest_frame, greatest_nat0};
 ghost use Rattle.rpc_tool.specs.Heads.{IsPast, message_head, data_length, body_length};
 
 use bp_num::{nat0_len, write_nat0};
@@ -17,7 +17,7 @@ pub const RESPONSE_LEAD: [u8; 3] = [2, 0, 0];
 
 /// How a Query begins: its constructor, the name, the version and the id 0.
 pub fn query_lead(alloc: Global, name: &[u8], version: u8) -> Result<Vec<u8>, OutOfMemory>
-    requires { length name.now ≤ longest_name }
+    requires { length name.now ≤ most_name_letters }
     ensures bytes { IfOk result (λ lead. lead.items ≡ query_lead name.now version) }
     ensures short { IfOk result (λ lead. length lead.items ≤ longest_lead) }
 {

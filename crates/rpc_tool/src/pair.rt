@@ -7,7 +7,7 @@ ghost use Rattle.rpc_world.specs.declared.schedule.Event.TheVariants as event;
 ghost use Rattle.rpc_world.specs.Stream.{query_lead, IsText};
 ghost use Rattle.rpc_world.specs.World.{World, first_world, effect, moved_of};
 ghost use Rattle.rpc_world.specs.Input.{IsName, IsEvent};
-ghost use Rattle.rpc_tool.specs.Limits.{longest_name};
+ghost use Rattle.rpc_tool.specs.Limits.{most_name_letters};
 ghost use Rattle.rpc_tool.specs.declared.failure.Failure.TheVariants as failure;
 
 use crate::carry::carry;
@@ -26,7 +26,7 @@ pub struct Pair {
     pub version: u8,
     pub client: Client,
     pub server: Server,
-    ghost short: { length name ≤ longest_name },
+    ghost short: { length name ≤ most_name_letters },
     ghost awaits: { server.inbox.awaited ≡ Some (query_lead name version) },
 }
 
@@ -42,7 +42,7 @@ impl Pair {
         up: &mut W,
         down: &mut W,
     ) -> Result<Pair, Failure>
-        requires { length name ≤ longest_name }
+        requires { length name ≤ most_name_letters }
         ensures wires { BothGoOn W.faults W.honest up.old up.new down.old down.new
             (IsErrOf result failure.WireFault) }
         ensures schema { IfOk result (λ pair. (pair.name ≡ name) × (pair.version ≡ version)

@@ -1,7 +1,7 @@
 // The text of a replay.
 ghost use Rattle.std.specs.Prelude.{Option, Some, None, ◌≡◌, ◌++◌, [], ◌∷◌, ℕ, List, codes, OnOk, length};
 ghost use Rattle.std.specs.Fmt.{decimal};
-ghost use Rattle.rpc_world.specs.Report.{line, at_line, answer_lines, refusal_text, end_text, moved_line, reply_line, dispatch_line, closing_lines, Shown};
+ghost use Rattle.rpc_world.specs.Report.{line, line_about, answer_lines, refusal_text, end_text, moved_line, reply_line, dispatch_line, closing_lines, Shown};
 ghost use Rattle.rpc_tool.specs.Showing.{IsShownBy, AreReplies, dispatched, texts_of};
 
 use crate::pair::Pair;
@@ -19,19 +19,19 @@ pub fn push_answer(
     ensures { OnOk result (out.new.items ≡ out.old.items ++ answer_lines number (answer ∷ [])) }
 {
     match answer {
-        Some(refusal) => push_at_line(alloc, out, number, text_of_refusal(refusal)),
+        Some(refusal) => push_line_about(alloc, out, number, text_of_refusal(refusal)),
         None => Ok(()),
     }
 }
 
 /// Appends a line about a line of the input.
-pub fn push_at_line(
+pub fn push_line_about(
     alloc: Global,
     out: &mut Vec<u8>,
     number: u64,
     text: &[u8],
 ) -> Result<(), OutOfMemory>
-    ensures { OnOk result (out.new.items ≡ out.old.items ++ at_line number text.now) }
+    ensures { OnOk result (out.new.items ≡ out.old.items ++ line_about number text.now) }
 {
     out.extend_from_slice(b"line ")?;
     push_number(alloc, out, number)?;

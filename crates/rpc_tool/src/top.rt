@@ -15,7 +15,7 @@ use crate::command::{Command, command_of};
 use crate::failure::Failure;
 use crate::input::{InputError, read_schedule};
 use crate::replay::replay;
-use crate::report::push_at_line;
+use crate::report::push_line_about;
 use crate::status::Status;
 use bp_base::{Finished, ReadAllError, Sink, Source, Wire, read_all, write_all};
 use bp_value::OutOfMemory;
@@ -129,7 +129,7 @@ fn refuse<O: Sink>(alloc: Global, number: u64, out: &mut O) -> Status
         ⊎ ((result ≡ outcome.OutOfMemory) × Gains O.put out.old out.new []) }
 {
     let mut line = Vec::new(alloc);
-    match push_at_line(alloc, &mut line, number, NOT_IN_FORM) {
+    match push_line_about(alloc, &mut line, number, NOT_IN_FORM) {
         Ok(()) => answer(out, &line, Status::Refused),
         Err(OutOfMemory) => Status::OutOfMemory,
     }

@@ -9,7 +9,7 @@ use Rattle.rpc_world.specs.declared.schedule.EndState.TheVariants.{Opening, Open
 use Rattle.rpc_world.specs.declared.schedule.Refusal.{Refusal}
 use Rattle.rpc_world.specs.declared.schedule.Refusal.TheVariants as refused
 use Rattle.rpc_world.specs.declared.schedule.Schedule.{Schedule}
-use Rattle.rpc_world.specs.World.{World, first_world, refusal, step, after, received, is_client_open, is_server_open, up_stream, down_stream}
+use Rattle.rpc_world.specs.World.{World, first_world, refusal, step, world_after, received, is_client_open, is_server_open, up_stream, down_stream}
 
 abbrev pub line : List ℕ → List ℕ
 line text = text ++ 10 ∷ []
@@ -22,14 +22,14 @@ refusal_text refused.NoSuchLabel = codes "no such label"
 refusal_text refused.NoSuch = codes "no such"
 
 -- a line about a line of the input
-abbrev pub at_line : ℕ → List ℕ → List ℕ
-at_line number text = line (codes "line " ++ (decimal number ++ (codes ": " ++ text)))
+abbrev pub line_about : ℕ → List ℕ → List ℕ
+line_about number text = line (codes "line " ++ (decimal number ++ (codes ": " ++ text)))
 
 -- the answers to some events of which the first stands at a line: a line for each that is refused
 abbrev pub answer_lines : ℕ → List (Option Refusal) → List ℕ
 answer_lines number [] = []
 answer_lines number (None ∷ answers) = answer_lines (number + 1) answers
-answer_lines number (Some reason ∷ answers) = at_line number (refusal_text reason) ++ answer_lines (number + 1) answers
+answer_lines number (Some reason ∷ answers) = line_about number (refusal_text reason) ++ answer_lines (number + 1) answers
 
 abbrev pub answers_of : World → List Event → List (Option Refusal)
 answers_of w [] = []
@@ -98,7 +98,7 @@ shown_of w = record {
 abbrev pub replay_text : Schedule → List ℕ
 replay_text s =
     answer_lines 3 (answers_of (first_world s.name s.version) s.events)
-    ++ closing_lines (shown_of (after (first_world s.name s.version) s.events))
+    ++ closing_lines (shown_of (world_after (first_world s.name s.version) s.events))
 
 -- how an end stands that awaits a header and then, if there is a lead, a message, and was given some bytes
 abbrev pub IsEndState : Option (List ℕ) → List ℕ → EndState → Type 0

@@ -96,5 +96,5 @@ unfoldable pub step : World → Event → World
 step w event = unless_refused (refusal w event) w (effect w event)
 
 -- the world after some events
-abbrev pub after : World → List Event → World
-after w events = fold step w events
+abbrev pub world_after : World → List Event → World
+world_after w events = fold step w events

@@ -1,7 +1,7 @@
 use Rattle.std.proofs.Common.{arith, ◌≡◌, ◌∙◌, length, take, ap, sym, subst}
 use Rattle.std.proofs.lemmas.List.{take_all}
 use Rattle.bp_base.proofs.Counting.{both_after, both_steady}
-use Rattle.rpc_world.specs.World.{first_world, after}
+use Rattle.rpc_world.specs.World.{first_world, world_after}
 use Rattle.rpc_tool.specs.Replayed.{IsAsked, AreAnswers}
 use Rattle.rpc_tool.proofs.Shows.{reported, replayed}
 use Rattle.rpc_tool.proofs.Replaying.{may_step, asked_next, answers_next, world_next, length_before, taken}
@@ -32,7 +32,7 @@ events-preserved g c =
       told = λ fresh. c.in_ok-answer.ensures.told (c.events.invariant.told fresh);
       world = λ honest.
           let was = c.events.invariant.world honest in
-          let stepped = c.in_ok-answer.ensures.world (after first before)
+          let stepped = c.in_ok-answer.ensures.world (world_after first before)
           (c.events.invariant.wires.up_honest.0 honest.up_honest)
           (c.events.invariant.wires.down_honest.0 honest.down_honest) was.0 in
           world_next _ first _ before c.index-events-index.result c.events.index _ _ _ _ _ _ _ more

@@ -1,5 +1,5 @@
 use Rattle.std.proofs.Common.{◌≡◌, ◌≤◌, length, take}
-use Rattle.rpc_world.specs.World.{first_world, after}
+use Rattle.rpc_world.specs.World.{first_world, world_after}
 use Rattle.rpc_world.specs.Report.{answer_lines, answers_of}
 use Rattle.bp_base.specs.Faults.{BothGoOn}
 use Rattle.rpc_tool.specs.Stands.{TellsOver, StandsOver}
@@ -18,7 +18,7 @@ invariant-events g l = record {
       → TellsOver g.W.Wire.sent g.W.Wire.given l.pair l.up l.down;
   world : HonestOver g.W.Wire.honest g.W.Wire.sent g.W.Wire.given l.fn.up l.fn.down
       → StandsOver g.W.Wire.sent g.W.Wire.given l.pair
-      (after (first_world l.fn.schedule.name l.fn.schedule.version) (take l.index l.events))
+      (world_after (first_world l.fn.schedule.name l.fn.schedule.version) (take l.index l.events))
       l.up l.down
       × l.report.items ≡ answer_lines 3 (answers_of
       (first_world l.fn.schedule.name l.fn.schedule.version) (take l.index l.events));
