@@ -25,9 +25,9 @@ pub enum Finished {
 
 /// A stream of bytes that go out, in pieces of any size.
 ///
-/// A fault may be counted only in a call that answers `Failed`: a write that took some bytes answers
-/// them, and leaves a fault that it met to a later call. The count stays at the last value of a
-/// `u64`.
+/// A fault may be counted only in a call that answers `Failed`: a write that took some bytes
+/// answers them, and leaves a fault that it met to a later call. The count stays at the last value
+/// of a `u64`.
 pub trait Sink {
     /// How often the sink has failed.
     ghost faults: { Self → ℕ };

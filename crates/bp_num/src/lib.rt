@@ -1,7 +1,9 @@
-//! The number forms of bin_prot: natural numbers and integers, read in every form and written in the shortest.
+//! The number forms of bin_prot: natural numbers and integers, read in every form and written in
+//! the shortest.
 //!
-//! The forms are those of the "Binary protocol specification": a first byte below `80` is the number itself; else it is a code, and
-//! the number follows in one, two, four or eight bytes, little-endian. Nothing here takes memory.
+//! The forms are those of the "Binary protocol specification": a first byte below `80` is the
+//! number itself; else it is a code, and the number follows in one, two, four or eight bytes,
+//! little-endian. Nothing here takes memory.
 #![tactic(auto)]
 
 mod number;

@@ -15,7 +15,8 @@ pub enum Event {
         label: Blob,
         text: Blob,
     },
-    /// At most `count` of the bytes in flight move to the server, or all of them, in pieces of at most `by` bytes.
+    /// At most `count` of the bytes in flight move to the server, or all of them, in pieces of at
+    /// most `by` bytes.
     Up {
         count: Option<u64>,
         by: u64,
