@@ -1,5 +1,9 @@
 pub mod Values
+pub mod Numbers
 pub mod Opening
 pub mod Descending
-pub mod Leaves
-pub mod Taking
+pub mod LevelSteps
+pub mod HeadSteps
+pub mod TagSteps
+pub mod Moving
+pub mod NodeSteps

@@ -26,9 +26,11 @@ count_of _ = 0
 abbrev pub IsCase : List Node → ℕ → Type 0
 IsCase ns i = (n : Node) → slice_get ns i ≡ Some n → n ≡ node.Args (first_of n) (count_of n)
 
+abbrev pub AreCases : List Node → ℕ → ℕ → Type 0
+AreCases ns first count = (first + count ≤ length ns) × ((place : ℕ) → place < count → IsCase ns (first + place))
+
 abbrev pub SumsFit : List Node → Type 0
-SumsFit ns = (i first count : ℕ) → slice_get ns i ≡ Some (node.Sum first count)
-    → (first + count ≤ length ns) × ((place : ℕ) → place < count → IsCase ns (first + place))
+SumsFit ns = (i first count : ℕ) → slice_get ns i ≡ Some (node.Sum first count) → AreCases ns first count
 
 abbrev pub PolysFit : List Node → ℕ → Type 0
 PolysFit ns tags = (i first count at : ℕ) → slice_get ns i ≡ Some (node.Poly first count at)

@@ -11,7 +11,7 @@ use Rattle.bp_codec.specs.declared.plan.Node.{Node}
 use Rattle.bp_codec.specs.Keeping.{Keeps}
 use Rattle.bp_codec.specs.Nodes.{ArePlaced}
 use Rattle.bp_codec.specs.Plan.{Reading, AreRead}
-use Rattle.bp_codec.specs.Levels.{next_of, reach_of, next_reads, Onward, level_reads}
+use Rattle.bp_codec.specs.Levels.{next_of, reach_of, next_reads, sexp_value, Onward, level_reads}
 use Rattle.bp_codec.specs.Opened.{opened, Reaches}
 
 -- a fact for the results after which reading may go on
@@ -34,6 +34,11 @@ pub record Moves (ns : List Node) (tags : List ℕ) (max : ℕ) (old new : Open)
   pub taken : OnOk result (length u < length s)
   pub reaches : Unless result (Reaches (length ns) new)
 
+-- what comes next is read so
+abbrev pub IsNext : List Node → List ℕ → ℕ → Open → Reading → Type 0
+IsNext ns tags max o r = (next_of o.top.left ≢ next.Nothing)
+    × ((reading : ℕ → Reading) → AreRead max ns tags reading → (t : List ℕ) → next_reads max reading (next_of o.top.left) t ≡ r t)
+
 -- a node is what comes next
 pub record ComesNext (ns : List Node) (n : Node) (o : Open) : Type 0 where
   pub place : ℕ
@@ -41,14 +46,21 @@ pub record ComesNext (ns : List Node) (n : Node) (o : Open) : Type 0 where
   pub at : slice_get ns place ≡ Some n
 
 -- a node is read where it comes next
-abbrev pub TakesNode : ℕ → Node → Open → Open → List ℕ → List ℕ → Result (Unit {0}) Stop → Type 0
-TakesNode max n old new s u result =
-    (ns : List Node) (tags : List ℕ) → ArePlaced ns tags → ComesNext ns n old → Reaches (length ns) old → Moves ns tags max old new s u result
+abbrev pub TakesAt : List Node → List ℕ → ℕ → Node → Open → Open → List ℕ → List ℕ → Result (Unit {0}) Stop → Type 0
+TakesAt ns tags max n old new s u result = ComesNext ns n old → Reaches (length ns) old → Moves ns tags max old new s u result
 
--- the value that comes next is read on as v reads it
-pub record Enters (ns : List Node) (tags : List ℕ) (v : (ℕ → Reading) → Reading) (old new : Open) : Type 0 where
-  pub same : (m : ℕ) (reading : ℕ → Reading) (s t : List ℕ) → AreRead m ns tags reading → next_of old.top.left ≢ next.Nothing
-      → next_reads m reading (next_of old.top.left) s ≡ v reading t → opened m reading old s ≡ opened m reading new t
+abbrev pub TakesNode : ℕ → Node → Open → Open → List ℕ → List ℕ → Result (Unit {0}) Stop → Type 0
+TakesNode max n old new s u result = (ns : List Node) (tags : List ℕ) → ArePlaced ns tags → TakesAt ns tags max n old new s u result
+
+-- an S-expression is read where it comes next
+abbrev pub TakesSexp : ℕ → ℕ → Open → Open → List ℕ → List ℕ → Result (Unit {0}) Stop → Type 0
+TakesSexp max depth old new s u result =
+    (ns : List Node) (tags : List ℕ) → IsNext ns tags max old (sexp_value max depth) → Reaches (length ns) old → Moves ns tags max old new s u result
+
+-- what comes next is read on as v reads it
+pub record Enters (ns : List Node) (tags : List ℕ) (max : ℕ) (v : (ℕ → Reading) → Reading) (old new : Open) : Type 0 where
+  pub same : (reading : ℕ → Reading) (s t : List ℕ) → AreRead max ns tags reading → next_of old.top.left ≢ next.Nothing
+      → next_reads max reading (next_of old.top.left) s ≡ v reading t → opened max reading old s ≡ opened max reading new t
   pub reaches : Reaches (length ns) old → Reaches (length ns) new
 
 -- reading up to the whole value

@@ -1,10 +1,6 @@
 // What is open while a value is read: a level for each value that has others in it.
 
-ghost use Rattle.std.specs.Prelude.{ℕ, List, ◌≡◌, ◌^◌, ◌<◌, map, IfOk, IfErr, OnOk};
-ghost use Rattle.readers.specs.Reader.{Grows};
-ghost use Rattle.bp_codec.specs.Keeping.{Gives};
-ghost use Rattle.bp_codec.specs.Plan.{Reading};
-ghost use Rattle.bp_codec.specs.Taking.{Takes};
+ghost use Rattle.std.specs.Prelude.{◌≡◌, ◌^◌, ◌<◌, map, IfOk, IfErr, OnOk};
 ghost use Rattle.bp_codec.specs.Levels.{advanced, last_of, made, next_of, reach_of, sexp_of, FillsOne};
 
 use crate::stop::Stop;
@@ -103,18 +99,6 @@ impl Level {
         self.values.push(value)?;
         self.left = self.left.after_next();
         Ok(())
-    }
-
-    /// Takes the value of a head that was read where the next begins.
-    pub fn take(&mut self, head: Result<Value, Stop>) -> Result<(), Stop>
-        requires { reach_of self.old.left < 2 ^ 64 }
-        ensures { (r : Reading) (s u : List ℕ) → Grows r → Gives r s u head
-            → Takes r self.old self.new s u result }
-    {
-        match head {
-            Ok(value) => self.put(value),
-            Err(stop) => Err(stop),
-        }
     }
 }
 

@@ -1,7 +1,11 @@
 //! Bytes of values: the decoder, which is fed in pieces, and the encoder.
 #![tactic(auto)]
 
+mod heads;
+mod leaves;
 mod levels;
 mod open;
 mod plan;
+mod sexps;
 mod stop;
+mod taking;

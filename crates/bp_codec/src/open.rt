@@ -1,6 +1,6 @@
 // All that is open while a value is read.
 
-ghost use Rattle.std.specs.Prelude.{◌^◌, ◌≢◌, ℕ, ◌<◌, length, OnOk, IfOk};
+ghost use Rattle.std.specs.Prelude.{◌^◌, ◌≢◌, ℕ, ◌<◌, length, OnOk, IfOk, IfErr, ◌≡◌};
 ghost use Rattle.bp_codec.specs.Levels.{next_of, reach_of};
 ghost use Rattle.bp_codec.specs.declared.levels.Next.TheVariants as next;
 
@@ -30,7 +30,8 @@ impl Open {
         room: usize,
     ) -> Result<(), Stop>
         requires { reach_of self.old.top.left < 2 ^ 64 }
-        ensures { OnOk result (Begins self.old left makes self.new) }
+        ensures ok { OnOk result (Begins self.old left makes self.new) }
+        ensures only { IfErr result (λ error. error ≡ Stop.OutOfMemory) }
     {
         let level = Level {
             left,

@@ -3,8 +3,8 @@ use Rattle.bp_codec.specs.Levels.{advanced}
 use Rattle.bp_codec.specs.declared.levels.Level.{Level}
 use Rattle.bp_codec.proofs.open.Open.begin.Goals as goal
 
-pub returns : goal.returns
-returns c = record {
+pub returns-clause-ok : goal.returns-clause-ok
+returns-clause-ok c = record {
   left = ap (λ (l : Level). l.left) c.replace-outer.ensures.after;
   makes = ap (λ (l : Level). l.makes) c.replace-outer.ensures.after;
   values = ap (λ (l : Level). l.values.items) c.replace-outer.ensures.after ∙ c.in_ok-with_capacity.ensures.items;

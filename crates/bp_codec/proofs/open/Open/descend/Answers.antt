@@ -11,7 +11,7 @@ pub parts-preserved : goal.parts-preserved
 parts-preserved c =
     let ns = c.args.plan.now.nodes.items in
     let old = c.parts.self in
-    let begins = c.in_ok-begin.ensures in
+    let begins = c.in_ok-begin.ensures.ok in
     let first = c.in-Parts.first in
     let stands : next_of old.top.left ≡ next.Node c.in-Node.place = c.parts.invariant.stands ∙ c.in-Node.is in
     let reach : reach_of old.top.left ≤ length ns = c.parts.invariant.reaches.top in
