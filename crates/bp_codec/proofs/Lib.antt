@@ -7,3 +7,10 @@ pub mod HeadSteps
 pub mod TagSteps
 pub mod Moving
 pub mod NodeSteps
+pub mod Standing
+pub mod Sizes
+pub mod Built
+pub mod Fit
+pub mod Choices
+pub mod ReadsAs
+pub mod Placed

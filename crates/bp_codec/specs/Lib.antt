@@ -5,4 +5,5 @@ pub mod Nodes
 pub mod Opened
 pub mod Plan
 pub mod Sexps
+pub mod Sources
 pub mod Taking

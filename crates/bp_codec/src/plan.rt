@@ -2,6 +2,10 @@
 ghost use Rattle.std.specs.Prelude.{◌<◌, length};
 ghost use Rattle.bp_codec.specs.Nodes.{OptsFit, ListsFit, PartsFit, SumsFit, PolysFit, ArgsFit};
 
+mod making;
+#[cfg(test)]
+mod tests;
+
 use bp_num::IntKind;
 
 /// A node of a shape. Children are named by their places among all nodes, and stand behind it.
