@@ -2,8 +2,8 @@
 use Rattle.std.proofs.Common.{◌≡◌, ℕ, zero, suc, ◌+◌, ◌<◌, ◌≤◌, List, [], ◌∷◌, length, get_or, slice_get, Some, refl, sym, ap, subst, ◌∙◌, arith}
 use Rattle.std.proofs.lemmas.Option.{slice_get-get_or, slice_get_within}
 use Rattle.bp_value.specs.Form.{Form, Parts, Cases, unit, bool, char, int, int32, int64, text, opt, listed, tuple, fields, sum, poly, sexp, end, part, end_cases, case}
-use Rattle.bp_value.specs.Faults.{part_names}
-use Rattle.bp_value.proofs.Good.{good_node, two_parts, some_fields}
+use Rattle.bp_value.specs.Faults.{part_names, case_names}
+use Rattle.bp_value.proofs.Good.{good_node, two_parts, some_fields, few_members}
 use Rattle.bp_codec.specs.declared.plan.Node.{Node}
 use Rattle.bp_codec.specs.declared.plan.Node.TheVariants as node
 use Rattle.bp_codec.specs.Nodes.{ArePlaced, IsCase, first_of, count_of}
@@ -16,6 +16,11 @@ part_length : (fs : Parts) → length (part_names fs) ≡ length (part_origins f
 unfolding part_origins
 part_length end = refl
 part_length (part name f fs) = ap suc (part_length fs)
+
+case_length : (cs : Cases) → length (case_names cs) ≡ length (case_origins cs)
+unfolding case_origins
+case_length end_cases = refl
+case_length (case name fs cs) = ap suc (case_length cs)
 
 -- each case is of arguments
 case_args : (cs : Cases) (place : ℕ) (o : Origin) → slice_get (case_origins cs) place ≡ Some o → (fs : Parts) × (o ≡ args fs)
@@ -58,7 +63,8 @@ module _ (f : Form) (os : List Origin) (ns : List Node) (tags : List ℕ) (built
   Fits k (node.List j) = (k < j) × (j < length ns)
   Fits k (node.Parts first count) = (0 < count) × (k < first) × (first + count ≤ length ns)
   Fits k (node.Sum first count) = (first + count ≤ length ns) × ((place : ℕ) → place < count → IsCase ns (first + place))
-  Fits k (node.Poly first count at) = (first + count ≤ length ns) × (at + count ≤ length tags) × ((place : ℕ) → place < count → IsCase ns (first + place))
+  Fits k (node.Poly first count at) = (first + count ≤ length ns) × (at + count ≤ length tags) × (count ≤ 256)
+      × ((place : ℕ) → place < count → IsCase ns (first + place))
   Fits k (node.Args first count) = first + count ≤ length ns
   Fits k _ = Unit {0}
 
@@ -85,6 +91,7 @@ module _ (f : Form) (os : List Origin) (ns : List Node) (tags : List ℕ) (built
   fits_made (value (poly cs)) good k first at lt kids own = (
     omega (arith, all, stands_within os first (case_origins cs) kids),
     omega (arith, tag_count cs, stands_within tags at (tag_words cs) own),
+    omega (arith, case_length cs, few_members good.0 (poly cs) (good_node good.0 (poly cs) good.1)),
     λ place below. case_is first place cs kids below,
   )
   fits_made (value sexp) good k first at lt kids own = tt

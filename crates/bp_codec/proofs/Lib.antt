@@ -14,3 +14,4 @@ pub mod Fit
 pub mod Choices
 pub mod ReadsAs
 pub mod Placed
+pub mod Dispatch

@@ -1,5 +1,5 @@
 -- Each kind of node as a head and what it lets follow.
-use Rattle.std.proofs.Common.{◌≡◌, refl, sym, ap, ◌∙◌, Bool, true, false, ℕ, zero, suc, ◌+◌, ◌<◌, ◌≤◌, List, [], ◌∷◌, ◌++◌, map, length, slice_get, Option, Some, None, Result, Ok, Err, OnOk, inl, inr, arith, rules}
+use Rattle.std.proofs.Common.{◌≡◌, refl, sym, ap, ◌∙◌, Bool, true, false, ℕ, zero, suc, ◌+◌, ◌<◌, ◌≤◌, List, [], ◌∷◌, map, length, slice_get, Option, Some, Result, Ok, Err, OnOk, inl, inr, arith, rules}
 use Rattle.readers.specs.Reader.{Outcome, whole, more, bad, after, mapped, one, count, Grows}
 use Rattle.readers.specs.Keys.{Keyed, next, some_left, key_at}
 use Rattle.readers.proofs.Keys.{next_out}

@@ -1,5 +1,5 @@
 -- A number that was read has 64 bits, and so stands in a value as it is.
-use Rattle.std.proofs.Common.{◌≡◌, ap, ◌∙◌, ℕ, ℤ, pos, negsuc, ◌^◌, ◌<◌, ◌≤◌, List, w64, to_z, of_z, FitsSigned, arith, lit≤}
+use Rattle.std.proofs.Common.{◌≡◌, ℕ, ℤ, pos, negsuc, ◌^◌, ◌<◌, ◌≤◌, List, w64, to_z, of_z, FitsSigned, arith, lit≤}
 use Rattle.std.proofs.lemmas.Int.{ints, to_z-of_z}
 use mir.Val.{SFits}
 use Rattle.bp_num.specs.Forms.{extent, limit_of, IsInt}

@@ -34,7 +34,7 @@ SumsFit ns = (i first count : ℕ) → slice_get ns i ≡ Some (node.Sum first c
 
 abbrev pub PolysFit : List Node → ℕ → Type 0
 PolysFit ns tags = (i first count at : ℕ) → slice_get ns i ≡ Some (node.Poly first count at)
-    → (first + count ≤ length ns) × (at + count ≤ tags) × ((place : ℕ) → place < count → IsCase ns (first + place))
+    → (first + count ≤ length ns) × (at + count ≤ tags) × (count ≤ 256) × ((place : ℕ) → place < count → IsCase ns (first + place))
 
 abbrev pub ArgsFit : List Node → Type 0
 ArgsFit ns = (i first count : ℕ) → slice_get ns i ≡ Some (node.Args first count) → first + count ≤ length ns

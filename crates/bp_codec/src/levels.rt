@@ -105,7 +105,8 @@ impl Level {
 impl Makes {
     /// The value that is made of all values of a level.
     pub fn value(self, alloc: Global, values: Vec<Value>) -> Result<Value, Stop>
-        ensures { IfOk result (λ value. value ≡ made self values.items) }
+        ensures ok { IfOk result (λ value. value ≡ made self values.items) }
+        ensures only { IfErr result (λ error. error ≡ Stop.OutOfMemory) }
     {
         match self {
             Makes::Alone => Ok(alone(values)),
@@ -133,7 +134,8 @@ fn alone(mut values: Vec<Value>) -> Value
 
 // The S-expressions of values.
 fn sexps(alloc: Global, values: Vec<Value>) -> Result<Vec<Sexp>, Stop>
-    ensures { IfOk result (λ all. all.items ≡ map sexp_of values.items) }
+    ensures ok { IfOk result (λ all. all.items ≡ map sexp_of values.items) }
+    ensures only { IfErr result (λ error. error ≡ Stop.OutOfMemory) }
 {
     let mut all = Vec::with_capacity(alloc, values.len())?;
     for value in values {

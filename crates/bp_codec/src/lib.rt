@@ -6,6 +6,7 @@ mod leaves;
 mod levels;
 mod open;
 mod plan;
+mod run;
 mod sexps;
 mod stop;
 mod taking;

@@ -47,7 +47,8 @@ impl Open {
     /// Closes the levels that have all their values, and answers the whole value where none is left.
     pub fn settle(&mut self, alloc: Global) -> Result<Option<Value>, Stop>
         requires { (n : ℕ) × Reaches n self.old }
-        ensures { IfOk result (λ value. IsSettled self.old self.new value) }
+        ensures ok { IfOk result (λ value. IsSettled self.old self.new value) }
+        ensures only { IfErr result (λ error. error ≡ Stop.OutOfMemory) }
     {
         'levels: while let Next::Nothing = self.top.left.next() {
             let Some(outer) = self.stack.pop() else {
@@ -65,7 +66,8 @@ impl Open {
     pub fn descend(&mut self, alloc: Global, plan: &Plan) -> Result<Next, Stop>
         requires some { next_of self.old.top.left ≢ next.Nothing }
         requires reach { Reaches (length plan.now.nodes.items) self.old }
-        ensures { IfOk result (λ next. GoesDown plan.now.nodes.items plan.now.tags.items self.old self.new next) }
+        ensures ok { IfOk result (λ next. GoesDown plan.now.nodes.items plan.now.tags.items self.old self.new next) }
+        ensures only { IfErr result (λ error. error ≡ Stop.OutOfMemory) }
     {
         let mut next = self.top.left.next();
         'parts: loop {

@@ -1,5 +1,5 @@
 // A shape as a list of nodes, which a decoder goes by.
-ghost use Rattle.std.specs.Prelude.{◌<◌, length};
+ghost use Rattle.std.specs.Prelude.{◌≡◌, ◌+◌, ◌<◌, ◌≤◌, length, take, drop};
 ghost use Rattle.bp_codec.specs.Nodes.{OptsFit, ListsFit, PartsFit, SumsFit, PolysFit, ArgsFit};
 
 mod making;
@@ -56,4 +56,14 @@ pub struct Plan {
     ghost sums: { SumsFit nodes.items },
     ghost polys: { PolysFit nodes.items (length tags.items) },
     ghost args: { ArgsFit nodes.items },
+}
+
+impl Plan {
+    /// The tags of a polymorphic variant: so many, from a place on.
+    pub fn tags_at(&self, first: usize, count: usize) -> &[u32]
+        requires { first + count ≤ length self.now.tags.items }
+        ensures { result.now ≡ take count (drop first self.now.tags.items) }
+    {
+        &self.tags[first..first + count]
+    }
 }

@@ -1,5 +1,5 @@
-use Rattle.std.proofs.Common.{◌≡◌, sym, ap, ◌∙◌, ◌<◌, ◌-◌, ◌++◌, ◌∷◌, [], arith}
-use Rattle.readers.specs.Reader.{whole, mapped}
+use Rattle.std.proofs.Common.{sym, ap, ◌∙◌, ◌++◌, ◌∷◌, [], arith}
+use Rattle.readers.specs.Reader.{mapped}
 use Rattle.readers.proofs.Growing.{grows_mapped}
 use Rattle.bp_num.specs.NumberAt.{int_at}
 use Rattle.bp_num.proofs.Growth.{grows_int}

@@ -2,7 +2,7 @@ use Rattle.std.proofs.Common.{◌≡◌, ℕ, ◌<◌, ◌≤◌, List, ◌++◌
 use Rattle.bp_codec.specs.declared.levels.Left.TheVariants as left
 use Rattle.bp_codec.specs.declared.levels.Makes.{Makes}
 use Rattle.bp_codec.specs.Plan.{Reading}
-use Rattle.bp_codec.specs.Leaves.{number_value, text_value}
+use Rattle.bp_codec.specs.Leaves.{number_value}
 use Rattle.bp_codec.specs.Levels.{Onward, fills}
 use Rattle.bp_codec.proofs.leaves.numbers.Given as goal
 

@@ -1,5 +1,5 @@
-use Rattle.std.proofs.Common.{◌≡◌, sym, ap, ◌∙◌, ◌<◌, ◌-◌, ◌++◌, ◌∷◌, [], arith}
-use Rattle.readers.specs.Reader.{whole, mapped}
+use Rattle.std.proofs.Common.{sym, ap, ◌∙◌, ◌++◌, ◌∷◌, [], arith}
+use Rattle.readers.specs.Reader.{mapped}
 use Rattle.readers.proofs.Growing.{grows_mapped}
 use Rattle.bp_grammar.specs.Reading.{sized_at}
 use Rattle.bp_grammar.proofs.Growing.{grows_sized}

@@ -1,10 +1,9 @@
-use Rattle.std.proofs.Common.{◌≡◌, sym, ap, ◌∙◌}
-use Rattle.readers.specs.Reader.{whole, mapped, one}
-use Rattle.readers.proofs.Growing.{grows_one, grows_mapped}
+use Rattle.readers.specs.Reader.{one}
+use Rattle.readers.proofs.Growing.{grows_one}
 use Rattle.bp_num.specs.declared.number.Why.TheVariants.{Byte}
 use Rattle.bp_grammar.specs.Spells.{char_of}
 use Rattle.bp_value.specs.declared.value.Value.TheVariants as val
-use Rattle.bp_codec.proofs.LevelSteps.{takes_put, takes_stop, stops_mapped, takes_items}
+use Rattle.bp_codec.proofs.LevelSteps.{takes_put, takes_stop}
 use Rattle.bp_codec.proofs.levels.Level.take_char.Goals as goal
 
 pub returns-in-Ok : goal.returns-in-Ok

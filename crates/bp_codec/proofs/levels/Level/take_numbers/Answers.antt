@@ -1,8 +1,7 @@
 use Rattle.bp_codec.proofs.Numbers.{number_back}
-use Rattle.std.proofs.Common.{w64, to_z, of_z, ◌≡◌, refl, sym, ap, ◌∙◌}
-use Rattle.readers.specs.Reader.{whole, mapped, one}
-use Rattle.readers.proofs.Growing.{grows_one, grows_mapped}
-use Rattle.bp_num.specs.declared.number.Why.TheVariants.{Byte}
+use Rattle.std.proofs.Common.{w64, to_z, of_z, refl, sym, ap, ◌∙◌}
+use Rattle.readers.specs.Reader.{whole, mapped}
+use Rattle.readers.proofs.Growing.{grows_mapped}
 use Rattle.bp_num.specs.NumberAt.{int_at}
 use Rattle.bp_num.proofs.Growth.{grows_int}
 use Rattle.bp_codec.specs.Leaves.{number_value}

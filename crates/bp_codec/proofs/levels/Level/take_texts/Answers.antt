@@ -1,7 +1,6 @@
-use Rattle.std.proofs.Common.{◌≡◌, refl, sym, ap, ◌∙◌}
-use Rattle.readers.specs.Reader.{whole, mapped, one}
-use Rattle.readers.proofs.Growing.{grows_one, grows_mapped}
-use Rattle.bp_num.specs.declared.number.Why.TheVariants.{Byte}
+use Rattle.std.proofs.Common.{refl, ap}
+use Rattle.readers.specs.Reader.{mapped}
+use Rattle.readers.proofs.Growing.{grows_mapped}
 use Rattle.bp_grammar.specs.Reading.{sized_at}
 use Rattle.bp_grammar.proofs.Growing.{grows_sized}
 use Rattle.bp_codec.specs.Leaves.{text_value}

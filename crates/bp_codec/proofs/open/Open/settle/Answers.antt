@@ -8,12 +8,12 @@ use Rattle.bp_codec.proofs.Opening.{closed, all_closed, closed_reaches, none_lef
 use Rattle.bp_codec.proofs.open.Open.settle.Goals as goal
 
 -- no level waits: the value is whole
-pub returns-in_default-pop : goal.returns-in_default-pop
-returns-in_default-pop c = λ m reading s.
+pub returns-in_default-pop-clause-ok : goal.returns-in_default-pop-clause-ok
+returns-in_default-pop-clause-ok c = λ m reading s.
     let old = c.levels.self in
     let none : old.stack.items ≡ [] = none_left c.pop.result _ old.stack.items c.pop.new.self.items c.pop.ensures.variant c.in_default-pop.not-Some c.pop.ensures.items c.pop.ensures.rest in
     let value : c.in_ok-value.field-0 ≡ made old.top.makes old.top.values.items =
-    c.in_ok-value.ensures ∙ ap (made old.top.makes) (ap (λ v. v.items) c.replace-values.ensures.value) in
+    c.in_ok-value.ensures.ok ∙ ap (made old.top.makes) (ap (λ v. v.items) c.replace-values.ensures.value) in
     c.levels.invariant.0 m reading s ∙ (all_closed m reading old s (sym c.next.ensures ∙ c.in-Nothing.is) none ∙ ap (λ (v : Value). whole v s) (sym value))
 
 -- the level around takes the value
@@ -25,7 +25,7 @@ levels-preserved c =
     let stack : old.stack.items ≡ c.pop.new.self.items ++ outer ∷ [] = rw c.in-Some.is at c.pop.ensures.items in
     let is_outer = c.replace-makes.ensures.after in
     let value : c.in_ok-value-2.value ≡ made old.top.makes old.top.values.items =
-    c.in_ok-value-2.ensures ∙ ap (λ (l : Level). made l.makes l.values.items) c.replace-makes.ensures.value in
+    c.in_ok-value-2.ensures.ok ∙ ap (λ (l : Level). made l.makes l.values.items) c.replace-makes.ensures.value in
     let vs : c.push.new.self.items ≡ outer.values.items ++ made old.top.makes old.top.values.items ∷ [] =
     c.in_ok-push.ensures.items ∙ (ap (λ (l : Level). l.values.items ++ c.in_ok-value-2.value ∷ []) is_outer ∙ ap (λ v. outer.values.items ++ v ∷ []) value) in
     let left = ap (λ (l : Level). l.left) is_outer in

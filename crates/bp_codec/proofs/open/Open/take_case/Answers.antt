@@ -1,4 +1,4 @@
-use Rattle.std.proofs.Common.{◌≡◌, refl, sym, ap, ◌∙◌}
+use Rattle.std.proofs.Common.{refl, ap, ◌∙◌}
 use Rattle.bp_value.specs.declared.value.Value.TheVariants as val
 use Rattle.bp_codec.proofs.Descending.{node_at}
 use Rattle.bp_codec.proofs.NodeSteps.{on_ok, enters_none, enters_args}

@@ -1,10 +1,9 @@
-use Rattle.std.proofs.Common.{◌≡◌, refl, sym, ap, ◌∙◌, subst, true, false, length, Ok, arith}
+use Rattle.std.proofs.Common.{refl, true, false, arith}
 use Rattle.readers.specs.Reader.{one}
 use Rattle.readers.proofs.Growing.{grows_one}
 use Rattle.bp_num.specs.declared.number.Why.TheVariants.{Byte}
 use Rattle.bp_value.specs.declared.value.Value.TheVariants as val
 use Rattle.bp_grammar.specs.Spells.{flag_of}
-use Rattle.bp_codec.specs.Keeping.{Gives}
 use Rattle.bp_codec.specs.declared.levels.Left.TheVariants as left
 use Rattle.bp_codec.specs.declared.levels.Makes.TheVariants as makes
 use Rattle.bp_codec.specs.declared.plan.Node.TheVariants as node

@@ -1,4 +1,4 @@
-use Rattle.std.proofs.Common.{◌≡◌, sym, ap, ◌∙◌, subst, ◌<◌, ℕ, length, take, drop, List, Ok, Err, arith}
+use Rattle.std.proofs.Common.{subst, ℕ, length, List, Ok, Err, arith}
 use Rattle.readers.specs.Keys.{key_at}
 use Rattle.readers.proofs.Keys.{grows_keys}
 use Rattle.bp_num.specs.declared.number.Why.TheVariants.{Tag}

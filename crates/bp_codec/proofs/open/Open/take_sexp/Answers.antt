@@ -1,4 +1,4 @@
-use Rattle.std.proofs.Common.{◌≡◌, refl, sym, ap, ◌∙◌, subst, ℕ, zero, suc, ◌+◌, ◌-◌, ◌≤◌, List, length, Option, Some, None, Ok, Err, arith}
+use Rattle.std.proofs.Common.{◌≡◌, refl, ap, ◌∙◌, ℕ, zero, suc, ◌-◌, ◌≤◌, List, Option, Some, None, arith}
 use Rattle.std.specs.Option.{SomeIff}
 use Rattle.readers.specs.Reader.{more, after}
 use Rattle.bp_value.specs.declared.value.Value.TheVariants as val
@@ -10,7 +10,6 @@ use Rattle.bp_codec.specs.declared.sexps.SexpHead.TheVariants as head
 use Rattle.bp_codec.specs.declared.stop.Stop.TheVariants as stop
 use Rattle.bp_codec.specs.Plan.{Reading, AreRead}
 use Rattle.bp_codec.specs.Levels.{next_of, next_reads, sexp_value}
-use Rattle.bp_codec.specs.Keeping.{Gives}
 use Rattle.bp_codec.specs.Sexps.{sexp_head_at, sexp_onward}
 use Rattle.bp_codec.specs.declared.open.Open.{Open}
 use Rattle.bp_codec.specs.declared.plan.Node.{Node}
