@@ -15,3 +15,5 @@ pub mod Choices
 pub mod ReadsAs
 pub mod Placed
 pub mod Dispatch
+pub mod Roots
+pub mod Decodes

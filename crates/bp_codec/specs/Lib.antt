@@ -7,3 +7,4 @@ pub mod Plan
 pub mod Sexps
 pub mod Sources
 pub mod Taking
+pub mod Decoded

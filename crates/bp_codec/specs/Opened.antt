@@ -6,6 +6,8 @@ use Rattle.bp_codec.specs.Plan.{Reading, AreRead}
 use Rattle.bp_codec.specs.Levels.{next_of, advanced, reach_of, state, AllReach}
 use Rattle.bp_codec.specs.declared.levels.Left.{Left}
 use Rattle.bp_codec.specs.declared.levels.Makes.{Makes}
+use Rattle.bp_codec.specs.declared.levels.Makes.TheVariants as made_of
+use Rattle.bp_codec.specs.declared.levels.Left.TheVariants as left_of
 use Rattle.bp_codec.specs.declared.levels.Next.{Next}
 use Rattle.bp_codec.specs.declared.levels.Next.TheVariants as next
 use Rattle.bp_codec.specs.declared.plan.Node.{Node}
@@ -20,6 +22,13 @@ opened m reading o s = state m reading o.top o.stack.items s
 pub record Reaches (n : ℕ) (o : Open) : Type 0 where
   pub top : reach_of o.top.left ≤ n
   pub stack : AllReach n o.stack.items
+
+-- nothing was read: the value of the first node is all that is left
+pub record IsRoot (o : Open) : Type 0 where
+  pub left : o.top.left ≡ left_of.Items 0 1
+  pub makes : o.top.makes ≡ made_of.Alone
+  pub values : o.top.values.items ≡ []
+  pub stack : o.stack.items ≡ []
 
 -- a level was opened: the one around it waits for the value
 pub record Begins (old : Open) (l : Left) (k : Makes) (new : Open) : Type 0 where

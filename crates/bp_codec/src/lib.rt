@@ -1,6 +1,7 @@
 //! Bytes of values: the decoder, which is fed in pieces, and the encoder.
 #![tactic(auto)]
 
+mod decoding;
 mod heads;
 mod leaves;
 mod levels;
@@ -10,3 +11,5 @@ mod run;
 mod sexps;
 mod stop;
 mod taking;
+
+pub use decoding::{Decoded, decode};

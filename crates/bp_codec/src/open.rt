@@ -19,7 +19,21 @@ pub struct Open {
 }
 
 impl Open {
-    ghost use Rattle.bp_codec.specs.Opened.{Reaches, Begins, IsSettled, GoesDown};
+    ghost use Rattle.bp_codec.specs.Opened.{Reaches, Begins, IsRoot, IsSettled, GoesDown};
+
+    /// The value of the first node, of which nothing was read.
+    pub fn root(alloc: Global) -> Open
+        ensures { IsRoot result }
+    {
+        Open {
+            top: Level {
+                left: Left::Items { node: 0, count: 1 },
+                makes: Makes::Alone,
+                values: Vec::new(alloc),
+            },
+            stack: Vec::new(alloc),
+        }
+    }
 
     /// Opens a level, whose value the innermost one waits for.
     pub fn begin(
