@@ -15,7 +15,7 @@ use bp_value::{OutOfMemory, Shape, Value};
 use std::alloc::Global;
 
 /// What stands in front of some bytes.
-#[derive(Drop)]
+#[derive(Debug, Drop)]
 pub enum Decoded {
     /// A value, in the first `used` bytes.
     Whole { value: Value, used: usize },

@@ -13,3 +13,6 @@ mod stop;
 mod taking;
 
 pub use decoding::{Decoded, decode};
+
+#[cfg(test)]
+mod tests;
