@@ -9,3 +9,4 @@ pub mod NodeCounts
 pub mod Covers
 pub mod Nodes
 pub mod SomeBytes
+pub mod Written

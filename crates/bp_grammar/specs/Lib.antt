@@ -3,3 +3,4 @@ pub mod Reasons
 pub mod Fronts
 pub mod Reading
 pub mod Nodes
+pub mod Written
