@@ -23,7 +23,7 @@ use Rattle.bp_codec.specs.Plan.{Reading, AreRead, ReadAs}
 use Rattle.bp_codec.specs.Opened.{opened, IsRoot}
 use Rattle.bp_codec.specs.Taking.{Ends}
 use Rattle.bp_codec.proofs.Roots.{root_reads}
-use Rattle.bp_codec.specs.Decoded.{IsDecoded, AreApart, HasNodes}
+use Rattle.bp_codec.specs.Decoded.{IsDecoded, NoneBegins, HasNodes}
 use Rattle.bp_codec.specs.declared.decoding.Decoded.{Decoded}
 use Rattle.bp_codec.specs.declared.decoding.Decoded.TheVariants as decoded
 
@@ -79,7 +79,7 @@ module _ (m : ℕ) (f : Form) (good : IsGood f) where
       → decoded.Whole v (length t) ≡ answer (length s) o
   again s vs o reads v t u spells cut = only s vs o reads (decoded.Whole v (length t)) (stands_by (Spells m f) v s t u cut spells)
 
-  pub apart : AreApart m f
+  pub apart : NoneBegins m f
   apart v w t u x y tv uw same = prefix_free IsByte (Spells m f) (FaultWhy m f) (read m f) right v w t u x y tv uw same
 
   pub nodes : (s : List ℕ) (d : Decoded) → IsDecoded m f s d → HasNodes d

@@ -6,7 +6,7 @@ use Rattle.bp_num.specs.declared.number.Why.{Why}
 use Rattle.bp_value.specs.declared.value.Value.TheVariants as val
 use Rattle.bp_codec.specs.Plan.{Reading, parts_at, node_reads, AreRead}
 use Rattle.bp_codec.specs.Levels.{next_of, reach_of, next_reads}
-use Rattle.bp_codec.specs.Opened.{opened, Begins}
+use Rattle.bp_codec.specs.Opened.{opened, Opens}
 use Rattle.bp_codec.specs.declared.levels.Left.{Left}
 use Rattle.bp_codec.specs.declared.levels.Left.TheVariants as left
 use Rattle.bp_codec.specs.declared.levels.Makes.TheVariants as makes
@@ -32,7 +32,7 @@ first_part first zero some = absurd (omega arith)
 first_part first (suc n) some = refl
 
 module _ (ns : List Node) (tags : List ℕ) (i first n : ℕ) (old new : Open) (at : slice_get ns i ≡ Some (node.Parts first n))
-    (stands : next_of old.top.left ≡ next.Node i) (begins : Begins old (left.Parts first n) makes.Parts new) where
+    (stands : next_of old.top.left ≡ next.Node i) (begins : Opens old (left.Parts first n) makes.Parts new) where
   pub descends : (m : ℕ) (reading : ℕ → Reading) → AreRead m ns tags reading → (s : List ℕ) → opened m reading old s ≡ opened m reading new s
   unfolding node_reads
   descends m reading reads s =

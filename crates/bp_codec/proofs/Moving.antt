@@ -14,7 +14,7 @@ use Rattle.bp_codec.specs.declared.plan.Node.{Node}
 use Rattle.bp_codec.specs.Keeping.{Gives}
 use Rattle.bp_codec.specs.Plan.{Reading, node_reads, AreRead}
 use Rattle.bp_codec.specs.Levels.{next_of, advanced, reach_of, made, next_reads, left_at, fills, waits, FillsOne}
-use Rattle.bp_codec.specs.Opened.{opened, Reaches, Begins}
+use Rattle.bp_codec.specs.Opened.{opened, Reaches, Opens}
 use Rattle.bp_codec.specs.Taking.{Moves, Enters, ComesNext}
 use Rattle.bp_codec.proofs.Opening.{fill_next, reach_advanced, begun, begun_reaches, ends}
 use Rattle.bp_codec.proofs.LevelSteps.{whole_goes, bad_goes}
@@ -47,7 +47,7 @@ module _ (ns : List Node) (tags : List ℕ) (m : ℕ) (old new : Open) (v : Valu
           }
 
 -- a level is opened
-pub enters_level : (ns : List Node) (tags : List ℕ) (m : ℕ) (v : (ℕ → Reading) → Reading) (old : Open) (l : Left) (k : Makes) (new : Open) → Begins old l k new → reach_of l ≤ length ns
+pub enters_level : (ns : List Node) (tags : List ℕ) (m : ℕ) (v : (ℕ → Reading) → Reading) (old : Open) (l : Left) (k : Makes) (new : Open) → Opens old l k new → reach_of l ≤ length ns
     → ((reading : ℕ → Reading) (t : List ℕ) → AreRead m ns tags reading → v reading t ≡ after (left_at m reading l t) (λ vs u. whole (made k vs) u)) → Enters ns tags m v old new
 enters_level ns tags m v old l k new begins le is = record {
   same = λ reading s t are some reads. begun old l k new begins m reading s t some (reads ∙ is reading t are);
@@ -127,10 +127,10 @@ module _ {A : Type 0} (h : List ℕ → Outcome ℕ Why A) (grows : Grows h) (k 
 
   pub next_begins : (a : A) (l : Left) (mk : Makes) (new : Open) (result : Result (Unit {0}) Stop) → Gives h s u (Ok a) → reach_of l ≤ length ns
       → ((reading : ℕ → Reading) (t : List ℕ) → AreRead max ns tags reading → k reading a t ≡ after (left_at max reading l t) (λ vs u. whole (made mk vs) u))
-      → OnOk result (Begins old l mk new) → IfErr result (λ error. error ≡ stop.OutOfMemory) → Moves ns tags max old new s u result
+      → OnOk result (Opens old l mk new) → IfErr result (λ error. error ≡ stop.OutOfMemory) → Moves ns tags max old new s u result
   next_begins a l mk new result gives le is begins only = next_enters a new result gives (enters result begins) only
     where
-      enters : (result : Result (Unit {0}) Stop) → OnOk result (Begins old l mk new) → OnOk result (Enters ns tags max (λ reading. k reading a) old new)
+      enters : (result : Result (Unit {0}) Stop) → OnOk result (Opens old l mk new) → OnOk result (Enters ns tags max (λ reading. k reading a) old new)
       enters (Ok t) begins = enters_level ns tags max (λ reading. k reading a) old l mk new begins le is
       enters (Err x) begins = tt
 
@@ -157,5 +157,5 @@ module _ {A : Type 0} (h : List ℕ → Outcome ℕ Why A) (grows : Grows h) (k 
 
   pub node_begins : (a : A) (l : Left) (mk : Makes) (new : Open) (result : Result (Unit {0}) Stop) → Gives h s u (Ok a) → reach_of l ≤ length ns
       → ((reading : ℕ → Reading) (t : List ℕ) → AreRead max ns tags reading → k reading a t ≡ after (left_at max reading l t) (λ vs u. whole (made mk vs) u))
-      → OnOk result (Begins old l mk new) → IfErr result (λ error. error ≡ stop.OutOfMemory) → Moves ns tags max old new s u result
+      → OnOk result (Opens old l mk new) → IfErr result (λ error. error ≡ stop.OutOfMemory) → Moves ns tags max old new s u result
   node_begins = next_begins h grows k ns tags max old s u some reads reach

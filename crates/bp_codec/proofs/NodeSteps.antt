@@ -25,7 +25,7 @@ use Rattle.bp_codec.specs.declared.open.Open.{Open}
 use Rattle.bp_codec.specs.declared.sexps.SexpHead.TheVariants as head
 use Rattle.bp_codec.specs.Plan.{Reading, parts_at, args_in, keys_in, keys_from, case_at, node_reads}
 use Rattle.bp_codec.specs.Levels.{made, left_at, sexp_in, sexp_of, sexp_value, FillsOne}
-use Rattle.bp_codec.specs.Opened.{Begins}
+use Rattle.bp_codec.specs.Opened.{Opens}
 use Rattle.bp_codec.specs.Sexps.{sexp_head_at, sexp_onward}
 use Rattle.bp_codec.specs.Taking.{Enters}
 use Rattle.bp_codec.proofs.Opening.{after_mapped, after_same}
@@ -103,7 +103,7 @@ module _ (ns : List Node) (tags : List ℕ) (args place first n : ℕ) (old : Op
       }
 
   -- a level is opened for the arguments
-  pub enters_args : (new : Open) → first + n ≤ length ns → Begins old (left.Parts first n) (makes.Case place) new → (m : ℕ)
+  pub enters_args : (new : Open) → first + n ≤ length ns → Opens old (left.Parts first n) (makes.Case place) new → (m : ℕ)
       → Enters ns tags m (λ reading t. mapped (val.Case place) (args_in reading (slice_get ns args) t)) old new
   enters_args new le begins m =
       enters_level ns tags m (λ reading t. mapped (val.Case place) (args_in reading (slice_get ns args) t)) old (left.Parts first n) (makes.Case place) new begins le

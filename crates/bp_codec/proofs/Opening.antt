@@ -8,7 +8,7 @@ use Rattle.bp_num.specs.declared.number.Why.{Why}
 use Rattle.bp_value.specs.declared.value.Value.{Value}
 use Rattle.bp_codec.specs.Plan.{Reading}
 use Rattle.bp_codec.specs.Levels.{next_of, advanced, reach_of, made, next_reads, left_at, Onward, fills, waits, AllReach}
-use Rattle.bp_codec.specs.Opened.{opened, Reaches, Begins}
+use Rattle.bp_codec.specs.Opened.{opened, Reaches, Opens}
 use Rattle.bp_codec.specs.declared.levels.Left.{Left}
 use Rattle.bp_codec.specs.declared.levels.Left.TheVariants as left
 use Rattle.bp_codec.specs.declared.levels.Makes.{Makes}
@@ -143,7 +143,7 @@ module _ (n : ℕ) (old new : Open) (outer : Level) (stack : old.stack.items ≡
 
 -- ---- opening
 
-module _ (old : Open) (l : Left) (k : Makes) (new : Open) (begins : Begins old l k new) where
+module _ (old : Open) (l : Left) (k : Makes) (new : Open) (begins : Opens old l k new) where
   pub begun_reaches : (n : ℕ) → reach_of l ≤ n → Reaches n old → Reaches n new
   begun_reaches n le r = record {
     top = subst (λ (x : Left). reach_of x ≤ n) (sym begins.left) le;

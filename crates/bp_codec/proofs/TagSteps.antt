@@ -1,5 +1,5 @@
 -- How the tag of a case is found among the tags as keys, and the byte that begins none.
-use Rattle.std.proofs.Common.{◌≡◌, refl, sym, ap, ◌∙◌, subst, Option, Some, None, Bool, true, false, ◌==◌, ◌||◌, ℕ, zero, suc, ◌+◌, ◌/◌, ◌^◌, ◌<◌, ◌≤◌, nat_lt, nat_eq, List, [], ◌∷◌, ◌++◌, length, take, drop, get_or, Fits, w8, w32, MatchOption, ◌⊎◌, inl, inr, arith}
+use Rattle.std.proofs.Common.{◌≡◌, refl, sym, ap, ◌∙◌, subst, Option, Some, None, Bool, true, false, ◌==◌, ◌||◌, ℕ, zero, suc, ◌+◌, ◌/◌, ◌^◌, ◌<◌, ◌≤◌, nat_lt, nat_eq, List, [], ◌∷◌, ◌++◌, length, take, drop, get_or, Fits, w8, w32, ◌⊎◌, inl, inr, arith}
 use Rattle.std.proofs.lemmas.List.{length-append, length-take, length-take-le, take-append-drop, take_at, take_more, append-nil}
 use Rattle.std.proofs.lemmas.Bool.{cases_lt}
 use Rattle.std.proofs.Math.Seq.{take-length, drop-cons}
@@ -10,6 +10,7 @@ use Rattle.std.proofs.lemmas.Option.{none-some}
 use Rattle.std.proofs.lemmas.Nat.{le_bytes_4}
 use Rattle.std.specs.Int.{to_le_bytes, from_le_bytes}
 use Rattle.std.specs.List.{list_any, position, position_or_len, starts_with}
+use Rattle.bp_codec.specs.Heads.{IsWholeTag}
 use Rattle.readers.specs.Reader.{Outcome, whole, more, bad, Front}
 use Rattle.readers.specs.Keys.{Keyed, AllLong, tail_if, next, some_left, key_at}
 use Rattle.readers.proofs.Leaves.{is_or, pick_true, pick_false}
@@ -203,9 +204,7 @@ module _ {W : Type 0} (w : W) (tags s : List ℕ) (word : ℕ) (fits : (k : ℕ)
       let split : little_endian 4 word ++ drop 4 s ≡ s = ap (λ l. l ++ drop 4 s) front_is ∙ take-append-drop 4 s in
       ap (λ l. key_at w 4 (keys_in 0 tags) l) (sym split) ∙ key_found w 4 (keys_in 0 tags) i (little_endian 4 word) (drop 4 s) (four_bytes 0 tags) refl first
 
-  pub tag_found : (r : Option ℕ) → r ≡ position (λ tag. tag == word) tags
-      → MatchOption r ((place : ℕ) → Keyed (keys_in 0 tags) place (take 4 s) → ⊥)
-      (λ place. (4 ≤ length s) × (key_at w 4 (keys_in 0 tags) s ≡ whole place (drop 4 s)))
+  pub tag_found : (r : Option ℕ) → r ≡ position (λ tag. tag == word) tags → IsWholeTag w (keys_in 0 tags) s r
   tag_found None none = λ place k.
       let at : (k : ℕ) × (k < length tags) × (get_or tags k 0 ≡ word) =
       word_at 0 tags place word fits below (subst (λ l. Keyed (keys_in 0 tags) place l) (sym front_is) k) in

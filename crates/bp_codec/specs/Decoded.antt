@@ -16,8 +16,8 @@ IsDecoded m f s decoded.More = IsProperFront (Spells m f) s
 IsDecoded m f s (decoded.Bad at why) = IsFaultAt (Spells m f) (FaultWhy m f) s at why
 
 -- no spelling begins another
-abbrev pub AreApart : ℕ → Form → Type 0
-AreApart m f = (v w : Value) (t u x y : List ℕ) → Spells m f v t → Spells m f w u → t ++ x ≡ u ++ y → (v ≡ w) × (t ≡ u)
+abbrev pub NoneBegins : ℕ → Form → Type 0
+NoneBegins m f = (v w : Value) (t u x y : List ℕ) → Spells m f v t → Spells m f w u → t ++ x ≡ u ++ y → (v ≡ w) × (t ≡ u)
 
 -- each node of the value, tuples and records aside, took a byte
 abbrev pub HasNodes : Decoded → Type 0

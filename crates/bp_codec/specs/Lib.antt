@@ -1,3 +1,4 @@
+pub mod Heads
 pub mod Keeping
 pub mod Leaves
 pub mod Levels

@@ -31,7 +31,7 @@ pub record IsRoot (o : Open) : Type 0 where
   pub stack : o.stack.items ≡ []
 
 -- a level was opened: the one around it waits for the value
-pub record Begins (old : Open) (l : Left) (k : Makes) (new : Open) : Type 0 where
+pub record Opens (old : Open) (l : Left) (k : Makes) (new : Open) : Type 0 where
   pub left : new.top.left ≡ l
   pub makes : new.top.makes ≡ k
   pub values : new.top.values.items ≡ []

@@ -4,7 +4,7 @@ ghost use Rattle.bp_value.specs.Form.{form_of};
 ghost use Rattle.bp_value.specs.Faults.{IsGood};
 ghost use Rattle.bp_value.specs.declared.value.Value as value;
 ghost use Rattle.bp_grammar.specs.Spells.{Spells};
-ghost use Rattle.bp_codec.specs.Decoded.{AreApart, HasNodes, IsDecoded};
+ghost use Rattle.bp_codec.specs.Decoded.{HasNodes, NoneBegins, IsDecoded};
 ghost use Rattle.bp_codec.specs.declared.decoding.Decoded.TheVariants as decoded;
 
 use crate::open::Open;
@@ -32,15 +32,20 @@ pub enum Decoded {
 /// What is open is kept in a list, so that no value is too deep. The time is linear in the bytes
 /// that are read and in the nodes of the shape; no length that is read makes more room than the
 /// bytes that are left can fill.
-pub fn decode(alloc: Global, shape: &Shape, bytes: &[u8], max_len: u64) -> Result<Decoded, OutOfMemory>
+pub fn decode(
+    alloc: Global,
+    shape: &Shape,
+    bytes: &[u8],
+    max_len: u64,
+) -> Result<Decoded, OutOfMemory>
     requires good { IsGood (form_of shape.now) }
     requires limit { max_len ≤ 2 ^ 30 }
     ensures told { IfOk result (λ answer. IsDecoded max_len (form_of shape.now) bytes.now answer) }
     ensures only { (d : Decoded) → IsDecoded max_len (form_of shape.now) bytes.now d
         → IfOk result (λ answer. d ≡ answer) }
-    ensures again { (v : Value) (t u : List ℕ) → Spells max_len (form_of shape.now) v t → bytes.now ≡ t ++ u
-        → IfOk result (λ answer. decoded.Whole v (length t) ≡ answer) }
-    ensures apart { AreApart max_len (form_of shape.now) }
+    ensures again { (v : Value) (t u : List ℕ) → Spells max_len (form_of shape.now) v t
+        → bytes.now ≡ t ++ u → IfOk result (λ answer. decoded.Whole v (length t) ≡ answer) }
+    ensures apart { NoneBegins max_len (form_of shape.now) }
     ensures nodes { IfOk result HasNodes }
 {
     let plan = Plan::new(alloc, shape)?;

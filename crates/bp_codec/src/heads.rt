@@ -1,7 +1,7 @@
 // Heads of values from the bytes at a cursor, which moves behind what was read (bin_prot, "Binary
 // protocol specification"). A head that is cut leaves the cursor where it was.
 
-ghost use Rattle.std.specs.Prelude.{◌≡◌, ℕ, ◌^◌, ◌<◌, ◌≤◌, ◌↔◌, take, drop, length, FitsSigned, IfOk, IsTrue, MatchOption};
+ghost use Rattle.std.specs.Prelude.{◌≡◌, ℕ, ◌^◌, ◌<◌, ◌≤◌, ◌↔◌, take, drop, length, FitsSigned, IfOk, IsTrue};
 ghost use Rattle.std.specs.Int.{w64};
 ghost use Rattle.std.specs.Result.{result_map_both};
 ghost use Rattle.readers.specs.Reader.{Each, Front, IsByte, one, whole};
@@ -9,6 +9,7 @@ ghost use Rattle.readers.specs.Keys.{Keyed, key_at};
 ghost use Rattle.bp_num.specs.NumberAt.{int_at, nat_at};
 ghost use Rattle.bp_grammar.specs.Reading.{sized_at};
 ghost use Rattle.bp_grammar.specs.Spells.{char_of, flag_of, place_of, unit_of};
+ghost use Rattle.bp_codec.specs.Heads.{IsWholeTag};
 ghost use Rattle.bp_codec.specs.Keeping.{Gives};
 ghost use Rattle.bp_codec.specs.Plan.{keys_in};
 
@@ -174,10 +175,7 @@ pub fn tag_at(rest: &mut &[u8], tags: &[u32]) -> Result<usize, Stop>
 
 // The place of the first tag that stands whole in front.
 fn whole_tag(bytes: &[u8], tags: &[u32]) -> Option<usize>
-    ensures { MatchOption result
-        ((place : ℕ) → Keyed (keys_in 0 tags.now) place (take 4 bytes.now) → ⊥)
-        (λ place. (4 ≤ length bytes.now)
-        × (key_at Why.Tag 4 (keys_in 0 tags.now) bytes.now ≡ whole place (drop 4 bytes.now))) }
+    ensures { IsWholeTag Why.Tag (keys_in 0 tags.now) bytes.now result }
 {
     let [a, b, c, d, ..] = bytes else {
         return None;

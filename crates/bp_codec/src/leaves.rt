@@ -91,8 +91,8 @@ fn numbers(
     values: &mut Vec<Value>,
     rest: &mut &[u8],
 ) -> Result<(), Stop>
-    ensures keeps { TakesItems (number_value kind) count.old values.old.items count.new values.new.items
-        rest.old.now rest.new.now result }
+    ensures keeps { TakesItems (number_value kind) count.old values.old.items
+        count.new values.new.items rest.old.now rest.new.now result }
     ensures taken { OnOk result (length rest.new.now < length rest.old.now) }
 {
     'numbers: loop {
@@ -116,8 +116,8 @@ fn texts(
     max: u64,
 ) -> Result<(), Stop>
     requires { max < 2 ^ 62 }
-    ensures keeps { TakesItems (text_value max) count.old values.old.items count.new values.new.items
-        rest.old.now rest.new.now result }
+    ensures keeps { TakesItems (text_value max) count.old values.old.items
+        count.new values.new.items rest.old.now rest.new.now result }
     ensures taken { OnOk result (length rest.new.now < length rest.old.now) }
 {
     'texts: loop {

@@ -19,7 +19,7 @@ pub struct Open {
 }
 
 impl Open {
-    ghost use Rattle.bp_codec.specs.Opened.{Reaches, Begins, IsRoot, IsSettled, GoesDown};
+    ghost use Rattle.bp_codec.specs.Opened.{Reaches, Opens, IsRoot, IsSettled, GoesDown};
 
     /// The value of the first node, of which nothing was read.
     pub fn root(alloc: Global) -> Open
@@ -44,7 +44,7 @@ impl Open {
         room: usize,
     ) -> Result<(), Stop>
         requires { reach_of self.old.top.left < 2 ^ 64 }
-        ensures ok { OnOk result (Begins self.old left makes self.new) }
+        ensures ok { OnOk result (Opens self.old left makes self.new) }
         ensures only { IfErr result (λ error. error ≡ Stop.OutOfMemory) }
     {
         let level = Level {
@@ -58,7 +58,8 @@ impl Open {
         Ok(())
     }
 
-    /// Closes the levels that have all their values, and answers the whole value where none is left.
+    /// Closes the levels that have all their values, and answers the whole value where none is
+    /// left.
     pub fn settle(&mut self, alloc: Global) -> Result<Option<Value>, Stop>
         requires { (n : ℕ) × Reaches n self.old }
         ensures ok { IfOk result (λ value. IsSettled self.old self.new value) }
@@ -80,7 +81,8 @@ impl Open {
     pub fn descend(&mut self, alloc: Global, plan: &Plan) -> Result<Next, Stop>
         requires some { next_of self.old.top.left ≢ next.Nothing }
         requires reach { Reaches (length plan.now.nodes.items) self.old }
-        ensures ok { IfOk result (λ next. GoesDown plan.now.nodes.items plan.now.tags.items self.old self.new next) }
+        ensures ok { IfOk result (λ next. GoesDown plan.now.nodes.items plan.now.tags.items
+            self.old self.new next) }
         ensures only { IfErr result (λ error. error ≡ Stop.OutOfMemory) }
     {
         let mut next = self.top.left.next();

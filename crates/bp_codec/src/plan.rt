@@ -30,7 +30,8 @@ pub enum Node {
         first: usize,
         count: usize,
     },
-    /// A polymorphic variant: so do its cases, and its tags stand side by side among all tags, from `tags` on.
+    /// A polymorphic variant: so do its cases, and its tags stand side by side among all tags, from
+    /// `tags` on.
     Poly {
         first: usize,
         count: usize,

@@ -2,9 +2,8 @@
 
 ghost use Rattle.std.specs.Prelude.{◌≡◌, ◌^◌, ◌<◌, ◌≤◌, ℕ, length, Err, OnOk};
 ghost use Rattle.bp_codec.specs.Levels.{next_of};
-ghost use Rattle.bp_codec.specs.Opened.{opened, IsNoParts, Reaches};
-ghost use Rattle.bp_codec.specs.Plan.{AreRead, Reading};
-ghost use Rattle.bp_codec.specs.Taking.{Ends, Moves};
+ghost use Rattle.bp_codec.specs.Opened.{IsNoParts, Reaches};
+ghost use Rattle.bp_codec.specs.Taking.{EndsAll, Moves};
 
 use crate::levels::Next;
 use crate::open::Open;
@@ -19,12 +18,19 @@ const SEXP_DEPTH: u32 = 128;
 impl Open {
     /// Reads on until the value is whole.
     ///
-    /// Each turn takes at least one byte. Where bytes are missing, the cursor stands where the next head begins.
-    pub fn run(&mut self, alloc: Global, plan: &Plan, rest: &mut &[u8], max: u64) -> Result<Value, Stop>
+    /// Each turn takes at least one byte. Where bytes are missing, the cursor stands where the next
+    /// head begins.
+    pub fn run(
+        &mut self,
+        alloc: Global,
+        plan: &Plan,
+        rest: &mut &[u8],
+        max: u64,
+    ) -> Result<Value, Stop>
         requires reach { Reaches (length plan.now.nodes.items) self.old }
         requires limit { max < 2 ^ 62 }
-        ensures ends { (reading : ℕ → Reading) → AreRead max plan.now.nodes.items plan.now.tags.items reading
-            → Ends (opened max reading self.old) (opened max reading self.new) rest.old.now rest.new.now result }
+        ensures ends { EndsAll plan.now.nodes.items plan.now.tags.items max self.old self.new
+            rest.old.now rest.new.now result }
         ensures reach { result ≡ Err Stop.More → Reaches (length plan.now.nodes.items) self.new }
         ensures left { OnOk result (length rest.new.now ≤ length rest.old.now) }
     {

@@ -21,7 +21,8 @@ pub enum SexpHead {
     List(usize),
 }
 
-/// An atom, or the length of a list whose items may be `depth` deep. A head that is cut leaves the cursor.
+/// An atom, or the length of a list whose items may be `depth` deep. A head that is cut leaves the
+/// cursor.
 pub fn sexp_head(rest: &mut &[u8], alloc: Global, depth: u32, max: u64) -> Result<SexpHead, Stop>
     requires { max < 2 ^ 62 }
     ensures { Gives (sexp_head_at max depth) rest.old.now rest.new.now result }

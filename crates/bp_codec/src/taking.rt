@@ -5,7 +5,7 @@ ghost use Rattle.readers.specs.Reader.{mapped};
 ghost use Rattle.bp_codec.specs.Levels.{reach_of};
 ghost use Rattle.bp_codec.specs.Nodes.{AreCases, IsCase};
 ghost use Rattle.bp_codec.specs.Plan.{args_in};
-ghost use Rattle.bp_codec.specs.Taking.{Enters, TakesAt, TakesNode, TakesSexp};
+ghost use Rattle.bp_codec.specs.Taking.{EntersCase, TakesAt, TakesNode, TakesPoly, TakesSexp};
 ghost use Rattle.bp_codec.specs.declared.plan.Node.TheVariants as node;
 
 use crate::heads::{flag_at, length_at, place_at, tag_at};
@@ -39,7 +39,8 @@ impl Open {
         }
     }
 
-    /// A list: its length, and a level for its items, with room for no more of them than the bytes that are left.
+    /// A list: its length, and a level for its items, with room for no more of them than the bytes
+    /// that are left.
     #[inline(never)]
     pub fn take_list(
         &mut self,
@@ -50,7 +51,8 @@ impl Open {
     ) -> Result<(), Stop>
         requires reach { reach_of self.old.top.left < 2 ^ 64 }
         requires limit { max < 2 ^ 62 }
-        ensures { TakesNode max (node.List item) self.old self.new rest.old.now rest.new.now result }
+        ensures { TakesNode max (node.List item) self.old self.new
+            rest.old.now rest.new.now result }
     {
         match length_at(rest, max) {
             Ok(count) => {
@@ -95,9 +97,8 @@ impl Open {
         requires reach { reach_of self.old.top.left < 2 ^ 64 }
         requires cases { AreCases plan.now.nodes.items first (length tags.now) }
         requires few { length tags.now < 2 ^ 32 }
-        ensures { (max at : ℕ) → tags.now ≡ take (length tags.now) (drop at plan.now.tags.items)
-            → TakesAt plan.now.nodes.items plan.now.tags.items max (node.Poly first (length tags.now) at)
-            self.old self.new rest.old.now rest.new.now result }
+        ensures { TakesPoly plan.now.nodes.items plan.now.tags.items first tags.now self.old self.new
+            rest.old.now rest.new.now result }
     {
         match tag_at(rest, tags) {
             Ok(place) => self.take_case(alloc, plan, first + place, place as u32),
@@ -110,8 +111,7 @@ impl Open {
         requires reach { reach_of self.old.top.left < 2 ^ 64 }
         requires within { args < length plan.now.nodes.items }
         requires is_case { IsCase plan.now.nodes.items args }
-        ensures ok { OnOk result ((max : ℕ) → Enters plan.now.nodes.items plan.now.tags.items max
-            (λ reading t. mapped (Value.Case place) (args_in reading (slice_get plan.now.nodes.items args) t))
+        ensures ok { OnOk result (EntersCase plan.now.nodes.items plan.now.tags.items args place
             self.old self.new) }
         ensures only { IfErr result (λ error. error ≡ Stop.OutOfMemory) }
     {

@@ -32,12 +32,7 @@ fn sum(alloc: Global, args: Vec<Shape>) -> Result<Shape, OutOfMemory> {
 }
 
 /// What stands in front of the bytes, where the shape is good.
-fn decoded(
-    alloc: Global,
-    shape: &Shape,
-    bytes: &[u8],
-    max_len: u64,
-) -> Result<Decoded, Fail>
+fn decoded(alloc: Global, shape: &Shape, bytes: &[u8], max_len: u64) -> Result<Decoded, Fail>
     requires { max_len ≤ 2 ^ 30 }
 {
     shape.check()?;
@@ -97,7 +92,13 @@ fn a_text_and_a_cut_one(rt: HostRuntime) -> Result<(), Fail> {
 fn a_list_up_to_the_limit(rt: HostRuntime) -> Result<(), Fail> {
     let alloc = rt.alloc();
     let shape = list_of(alloc, Shape::Int)?;
-    assert!(rt; is_bad(&decoded(alloc, &shape, &[0x03, 0x01, 0x02], 2)?, 0, Why::Length));
+    assert!(rt;
+        is_bad(
+            &decoded(alloc, &shape, &[0x03, 0x01, 0x02], 2)?,
+            0,
+            Why::Length
+        )
+    );
     assert!(rt; is_more(&decoded(alloc, &shape, &[0x03, 0x01, 0x02], 3)?));
     let items = vec![in alloc; Value::Num(1), Value::Num(2)]?;
     let want = Value::Items(Listed::from_vec(items));

@@ -56,9 +56,9 @@ AtFlag L M false a s = L a s
 AtFlag L M true a s = M a s
 
 -- the language of the case at a place: of this one at place 0, of a later one at the place after it
-abbrev pub AtPlace : {A : Type 0} → (A → List ℕ → Type 0) → (ℕ → A → List ℕ → Type 0) → ℕ → A → List ℕ → Type 0
-AtPlace Here Later zero a s = Here a s
-AtPlace Here Later (suc place) a s = Later place a s
+abbrev pub AtCase : {A : Type 0} → (A → List ℕ → Type 0) → (ℕ → A → List ℕ → Type 0) → ℕ → A → List ℕ → Type 0
+AtCase Here Later zero a s = Here a s
+AtCase Here Later (suc place) a s = Later place a s
 
 -- ---- S-expressions
 
@@ -99,4 +99,4 @@ unfoldable mutual
   -- the arguments of the case at a place
   pub SpellCase : ℕ → Cases → ℕ → List Value → List ℕ → Type 0
   SpellCase m end_cases place vs s = ⊥
-  SpellCase m (case name fs cs) place vs s = AtPlace (SpellParts m fs) (SpellCase m cs) place vs s
+  SpellCase m (case name fs cs) place vs s = AtCase (SpellParts m fs) (SpellCase m cs) place vs s

@@ -84,7 +84,7 @@ returns-in-Poly c =
     let fits = c.args.plan.now.polys comes.place c.in-Poly.first c.in-Poly.count c.in-Poly.tags comes.at in
     let is = c.tags_at-tags.ensures in
     let count : length c.tags_at-tags.result.now ≡ c.in-Poly.count =
-        ap length is ∙ (length-take c.in-Poly.count (drop c.in-Poly.tags c.args.plan.now.tags.items) ∙ omega (arith, length-drop c.in-Poly.tags c.args.plan.now.tags.items, fits.1)) in
+    ap length is ∙ (length-take c.in-Poly.count (drop c.in-Poly.tags c.args.plan.now.tags.items) ∙ omega (arith, length-drop c.in-Poly.tags c.args.plan.now.tags.items, fits.1)) in
     let here : ComesNext c.args.plan.now.nodes.items (node.Poly c.in-Poly.first (length c.tags_at-tags.result.now) c.in-Poly.tags) c.args.self.now =
-        subst (λ n. ComesNext c.args.plan.now.nodes.items (node.Poly c.in-Poly.first n c.in-Poly.tags) c.args.self.now) (sym count) comes in
+    subst (λ n. ComesNext c.args.plan.now.nodes.items (node.Poly c.in-Poly.first n c.in-Poly.tags) c.args.self.now) (sym count) comes in
     c.take_poly.ensures c.args.max c.in-Poly.tags (is ∙ ap (λ n. take n (drop c.in-Poly.tags c.args.plan.now.tags.items)) (sym count)) here c.requires.reach
