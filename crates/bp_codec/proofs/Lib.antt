@@ -1,5 +1,5 @@
 pub mod Values
-pub mod Numbers
+pub mod Ranges
 pub mod Opening
 pub mod Descending
 pub mod LevelSteps
@@ -17,3 +17,8 @@ pub mod Placed
 pub mod Dispatch
 pub mod Roots
 pub mod Decodes
+pub mod BytePlaces
+pub mod WrittenLayers
+pub mod Leaving
+pub mod Putting
+pub mod Writable

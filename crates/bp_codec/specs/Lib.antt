@@ -9,3 +9,6 @@ pub mod Sexps
 pub mod Sources
 pub mod Taking
 pub mod Decoded
+pub mod Fitting
+pub mod Puts
+pub mod Rooms

@@ -1,18 +1,37 @@
-//! Bytes of values: the decoder, which is fed in pieces, and the encoder.
+//! Values to and from their bytes in bin_prot.
+//!
+//! Which bytes spell which value of a shape is the grammar of bin_prot's "Binary protocol
+//! specification". A value may have several spellings, since a number may be written longer than it
+//! need be: [`decode`] reads each of them, [`encode`] writes the shortest one, and [`size`] answers
+//! its length.
+//!
+//! The shape has to be checked, and a value that is written has to fit it, within some limit on
+//! lengths of at most 2^30: [`Shape::check`] and [`fits`] are the tests.
+//!
+//! [`Shape::check`]: bp_value::Shape::check
+//! [`fits`]: bp_value::fits
 #![tactic(auto)]
 
+mod contents;
 mod decoding;
+mod encoding;
+mod error;
 mod heads;
 mod leaves;
 mod levels;
+mod numbers;
 mod open;
 mod plan;
 mod run;
 mod sexps;
+mod sizing;
 mod stop;
 mod taking;
 
 pub use decoding::{Decoded, decode};
+pub use encoding::encode;
+pub use error::EncodeError;
+pub use sizing::size;
 
 #[cfg(test)]
 mod tests;

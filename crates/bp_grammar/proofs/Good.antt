@@ -27,7 +27,7 @@ extent_fits (negsuc n) fits = omega (arith, ints)
 pub tag_extent : (name : List ℕ) → extent (tag_of name) < 2 ^ 31
 tag_extent name = extent_fits (tag_of name) (tag_fits name)
 
-case_count-is : (cs : Cases) → case_count cs ≡ length (case_names cs)
+pub case_count-is : (cs : Cases) → case_count cs ≡ length (case_names cs)
 case_count-is end_cases = refl
 case_count-is (case name fs cs) = ap suc (case_count-is cs)
 

@@ -1,7 +1,7 @@
 use Rattle.std.proofs.Common.{refl, sym, subst, w64, FitsSigned}
 use Rattle.bp_num.proofs.FromAnswers.{int_more}
 use Rattle.bp_codec.proofs.HeadSteps.{number_done, number_bad}
-use Rattle.bp_codec.proofs.Numbers.{number_fits, number_back}
+use Rattle.bp_codec.proofs.Ranges.{number_fits, number_back}
 use Rattle.bp_codec.proofs.heads.number_at.Goals as goal
 
 pub returns-in-Done-clause-gives : goal.returns-in-Done-clause-gives

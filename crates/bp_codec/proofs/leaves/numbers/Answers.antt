@@ -7,7 +7,7 @@ use Rattle.bp_codec.specs.Leaves.{number_value}
 use Rattle.bp_value.specs.declared.value.Value.TheVariants as val
 use Rattle.bp_codec.specs.declared.levels.Left.TheVariants as left
 use Rattle.bp_codec.specs.Levels.{fills}
-use Rattle.bp_codec.proofs.Numbers.{number_back}
+use Rattle.bp_codec.proofs.Ranges.{number_back}
 use Rattle.bp_codec.proofs.LevelSteps.{stops_mapped, item_taken, item_stops, keeps_after}
 use Rattle.bp_codec.proofs.leaves.numbers.Goals as goal
 

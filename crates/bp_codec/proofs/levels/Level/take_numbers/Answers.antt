@@ -1,4 +1,4 @@
-use Rattle.bp_codec.proofs.Numbers.{number_back}
+use Rattle.bp_codec.proofs.Ranges.{number_back}
 use Rattle.std.proofs.Common.{w64, to_z, of_z, refl, sym, ap, ◌∙◌}
 use Rattle.readers.specs.Reader.{whole, mapped}
 use Rattle.readers.proofs.Growing.{grows_mapped}

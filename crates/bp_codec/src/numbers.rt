@@ -1,0 +1,100 @@
+// Numbers onto the end of a list of bytes, in their shortest forms. Room for the longest form is
+// made first, so that the bytes are put down one by one without a test.
+ghost use Rattle.std.specs.Prelude.{◌≡◌, ◌+◌, ◌≤◌, ◌∷◌, ◌++◌, length, vec_len, vec_capacity};
+ghost use Rattle.bp_num.specs.Forms.{little_endian, written_int, written_nat};
+ghost use Rattle.bp_codec.specs.Puts.{Puts};
+
+use crate::error::{PutError, within};
+
+/// The most bytes of a number.
+const LONGEST: usize = 9;
+
+/// Appends the shortest form of a length.
+#[inline(always)]
+pub(crate) fn put_nat(number: u64, bound: u64, out: &mut Vec<u8>) -> Result<(), PutError>
+    ensures { Puts bound (written_nat number) out.old.items out.new.items result }
+{
+    out.reserve(LONGEST)?;
+    match number {
+        0..=0x7F => out.push_reserved(number as u8),
+        0x80..=0xFFFF => push_two(number as u16, out),
+        0x1_0000..=0xFFFF_FFFF => push_four(number as u32, out),
+        _ => push_eight(number, out),
+    }
+    within(bound, out)
+}
+
+/// How many bytes `put_nat` appends.
+pub(crate) fn nat_len(number: u64) -> u64
+    ensures { result ≡ length (written_nat number) }
+{
+    match number {
+        0..=0x7F => 1,
+        0x80..=0xFFFF => 3,
+        0x1_0000..=0xFFFF_FFFF => 5,
+        _ => 9,
+    }
+}
+
+/// Appends the shortest form of an int of any kind.
+#[inline(always)]
+pub(crate) fn put_int(number: i64, bound: u64, out: &mut Vec<u8>) -> Result<(), PutError>
+    ensures { Puts bound (written_int number) out.old.items out.new.items result }
+{
+    out.reserve(LONGEST)?;
+    match number {
+        -0x80..=-1 => {
+            out.push_reserved(0xFF);
+            out.push_reserved((number as i8).cast_unsigned());
+        }
+        0..=0x7F => out.push_reserved(number as u8),
+        -0x8000..=0x7FFF => push_two((number as i16).cast_unsigned(), out),
+        -0x8000_0000..=0x7FFF_FFFF => push_four((number as i32).cast_unsigned(), out),
+        _ => push_eight(number.cast_unsigned(), out),
+    }
+    within(bound, out)
+}
+
+// The code of two bytes, and a word.
+#[inline(always)]
+fn push_two(word: u16, out: &mut Vec<u8>)
+    requires { vec_len out.old + 3 ≤ vec_capacity out.old }
+    ensures { out.new.items ≡ out.old.items ++ 254 ∷ little_endian 2 word }
+{
+    let [first, second] = word.to_le_bytes();
+    out.push_reserved(0xFE);
+    out.push_reserved(first);
+    out.push_reserved(second);
+}
+
+// The code of four bytes, and a word.
+#[inline(always)]
+fn push_four(word: u32, out: &mut Vec<u8>)
+    requires { vec_len out.old + 5 ≤ vec_capacity out.old }
+    ensures { out.new.items ≡ out.old.items ++ 253 ∷ little_endian 4 word }
+{
+    let [first, second, third, fourth] = word.to_le_bytes();
+    out.push_reserved(0xFD);
+    out.push_reserved(first);
+    out.push_reserved(second);
+    out.push_reserved(third);
+    out.push_reserved(fourth);
+}
+
+// The code of eight bytes, and a word.
+#[inline(never)]
+fn push_eight(word: u64, out: &mut Vec<u8>)
+    requires { vec_len out.old + 9 ≤ vec_capacity out.old }
+    ensures { out.new.items ≡ out.old.items ++ 252 ∷ little_endian 8 word }
+{
+    let [b0, b1, b2, b3, b4, b5, b6, b7] = word.to_le_bytes();
+    out.push_reserved(0xFC);
+    out.push_reserved(b0);
+    out.push_reserved(b1);
+    out.push_reserved(b2);
+    out.push_reserved(b3);
+    out.push_reserved(b4);
+    out.push_reserved(b5);
+    out.push_reserved(b6);
+    out.push_reserved(b7);
+}
