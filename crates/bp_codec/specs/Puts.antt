@@ -26,9 +26,9 @@ KeepsBound bound len (Err TooLong) = bound < len
 KeepsBound bound len (Err OutOfMemory) = ⊥
 
 -- what a refusal says of a spelling of so many bytes that was to have at most max
-abbrev pub IsRefusal : ℕ → ℕ → EncodeError → Type 0
-IsRefusal max count (error.TooLong limit) = (limit ≡ max) × (max < count)
-IsRefusal max count error.OutOfMemory = Unit {0}
+abbrev pub Refuses : ℕ → ℕ → EncodeError → Type 0
+Refuses max count (error.TooLong limit) = (limit ≡ max) × (max < count)
+Refuses max count error.OutOfMemory = Unit {0}
 
 -- what an inner refusal is told as
 abbrev pub refusal_of : PutError → Bool → ℕ → EncodeError

@@ -14,7 +14,7 @@ ghost use Rattle.bp_value.specs.Tags.{tag_of};
 ghost use Rattle.bp_grammar.specs.Spells.{Spells};
 ghost use Rattle.bp_grammar.specs.Written.{bool_bytes, char_bytes, number_bytes, text_bytes, sexp_bytes, written, written_bytes, written_list, written_parts, written_sexp};
 ghost use Rattle.bp_codec.specs.Fitting.{IsFitting, IsWritable, AreWritable};
-ghost use Rattle.bp_codec.specs.Puts.{Puts, IsRefusal, refusal_of};
+ghost use Rattle.bp_codec.specs.Puts.{Puts, Refuses, refusal_of};
 
 use crate::contents::{
     bool_in, case_in, char_in, items_in, number_in, option_in, parts_in, sexp_in, text_in,
@@ -39,7 +39,7 @@ pub fn encode(shape: &Shape, value: &Value, max: u64, out: &mut Vec<u8>) -> Resu
         OnOk result (out.new.items ≡ out.old.items ++ bytes) }
     ensures within { OnOk result (length (written (form_of shape.now) value.now) ≤ max) }
     ensures refused { let bytes = written (form_of shape.now) value.now in
-        IfErr result (IsRefusal max (length bytes)) }
+        IfErr result (Refuses max (length bytes)) }
     ensures err { OnErr result (out.new.items ≡ out.old.items) }
 
     ensures spelled { let f = form_of shape.now in

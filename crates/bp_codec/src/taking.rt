@@ -97,8 +97,8 @@ impl Open {
         requires reach { reach_of self.old.top.left < 2 ^ 64 }
         requires cases { AreCases plan.now.nodes.items first (length tags.now) }
         requires few { length tags.now < 2 ^ 32 }
-        ensures { TakesPoly plan.now.nodes.items plan.now.tags.items first tags.now self.old self.new
-            rest.old.now rest.new.now result }
+        ensures { TakesPoly plan.now.nodes.items plan.now.tags.items first tags.now
+            self.old self.new rest.old.now rest.new.now result }
     {
         match tag_at(rest, tags) {
             Ok(place) => self.take_case(alloc, plan, first + place, place as u32),
