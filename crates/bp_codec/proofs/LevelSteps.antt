@@ -11,7 +11,7 @@ use Rattle.bp_codec.specs.declared.levels.Left.TheVariants as left
 use Rattle.bp_codec.specs.declared.levels.Makes.{Makes}
 use Rattle.bp_codec.specs.declared.levels.Level.{Level}
 use Rattle.bp_codec.specs.declared.levels.Next.TheVariants as next
-use Rattle.bp_codec.specs.Keeping.{Gives, Keeps}
+use Rattle.bp_codec.specs.Keeping.{Gives, Keeps, LeavesSome, Cuts}
 use Rattle.bp_codec.specs.Plan.{Reading}
 use Rattle.bp_codec.specs.Levels.{next_of, advanced, reach_of, next_reads, Onward, fills, level_reads, FillsOne}
 use Rattle.bp_codec.specs.Leaves.{TakesItems}
@@ -66,7 +66,7 @@ module _ (r : Reading) (grows : Grows r) (old : Level) (s u : List ℕ) where
       λ x. ap (λ y. level_reads m reading old onward (y ++ x)) (sym same),
       ap (λ y. level_reads m reading old onward y) same ∙ (step m reading onward some is s ∙ ap (λ o. after o (λ w. fills m reading (advanced old.left) old.makes (old.values.items ++ w ∷ []) onward)) reads),
     );
-    taken = tt;
+    taken = (omega (arith, ap length same), λ e. same);
     reach = omega arith;
   }
 
@@ -132,9 +132,18 @@ keeps_after T A B C s t u stop.More same k = (λ x. same x ∙ k.0 x, k.1)
 keeps_after T A B C s t u (stop.Bad w) same k = λ x. same x ∙ k x
 keeps_after T A B C s t u stop.OutOfMemory same k = tt
 
+-- a call takes what a later one leaves
+pub cuts_after : {A : Type 0} (reads : List ℕ → Outcome ℕ Why A) (s t u : List ℕ) (e : Stop) → LeavesSome s t → Gives reads t u (Err e) → Cuts {T = Unit {0}} s u (Err e)
+cuts_after reads s t u stop.More some gives =
+    let same : length u ≡ length t = ap length gives.1 in
+    let le : length t ≤ length s = some.0 in
+    (omega arith, λ e. gives.1 ∙ some.1 (sym same ∙ e))
+cuts_after reads s t u (stop.Bad w) some gives = tt
+cuts_after reads s t u stop.OutOfMemory some gives = tt
+
 -- the level of a list whose items were taken in one go
 pub takes_items : (r : Reading) (old new : Level) (node n left_n : ℕ) (s u : List ℕ) (result : Result (Unit {0}) Stop) → old.left ≡ left.Items node n → new.left ≡ left.Items node left_n
-    → new.makes ≡ old.makes → TakesItems r n old.values.items left_n new.values.items s u result → OnOk result (length u < length s) → Takes r old new s u result
+    → new.makes ≡ old.makes → TakesItems r n old.values.items left_n new.values.items s u result → Cuts s u result → Takes r old new s u result
 takes_items r old new node n left_n s u result was is makes keeps taken = record {
   keeps = λ m reading onward some reads. go m reading onward some reads;
   taken = taken;

@@ -80,7 +80,7 @@ module _ {A : Type 0} (h : List ℕ → Outcome ℕ Why A) (grows : Grows h) (k 
       ap (λ y. opened max reading old y) gives.1 ∙ (stops_as reading are s
           ∙ ap (λ o. after (after o (k reading)) (λ v. fills max reading (advanced old.top.left) old.top.makes (old.top.values.items ++ v ∷ []) (waits max reading ends old.stack.items))) gives.0),
     );
-    taken = tt;
+    taken = (omega (arith, ap length gives.1), λ e. gives.1);
     reaches = reach;
   }
 

@@ -1,5 +1,5 @@
 -- How a step that takes bytes leaves what is open.
-use Rattle.std.specs.Prelude.{◌≡◌, ◌≢◌, ℕ, ◌<◌, ◌≤◌, List, ◌++◌, length, take, drop, slice_get, Some, Result, Ok, Err, OnOk}
+use Rattle.std.specs.Prelude.{◌≡◌, ◌≢◌, ℕ, ◌<◌, ◌≤◌, List, ◌++◌, length, take, drop, slice_get, Some, Result, Ok, Err}
 use Rattle.readers.specs.Reader.{whole, more, bad, mapped}
 use Rattle.bp_value.specs.declared.value.Value.{Value}
 use Rattle.bp_value.specs.declared.value.Value.TheVariants as val
@@ -10,7 +10,7 @@ use Rattle.bp_codec.specs.declared.levels.Next.TheVariants as next
 use Rattle.bp_codec.specs.declared.open.Open.{Open}
 use Rattle.bp_codec.specs.declared.plan.Node.{Node}
 use Rattle.bp_codec.specs.declared.plan.Node.TheVariants as node
-use Rattle.bp_codec.specs.Keeping.{Keeps}
+use Rattle.bp_codec.specs.Keeping.{Keeps, Cuts}
 use Rattle.bp_codec.specs.Nodes.{ArePlaced}
 use Rattle.bp_codec.specs.Plan.{Reading, AreRead, args_in}
 use Rattle.bp_codec.specs.Levels.{next_of, reach_of, next_reads, sexp_value, Onward, level_reads}
@@ -27,13 +27,13 @@ Unless (Err stop.OutOfMemory) P = Unit {0}
 pub record Takes (r : Reading) (old new : Level) (s u : List ℕ) (result : Result (Unit {0}) Stop) : Type 0 where
   pub keeps : (m : ℕ) (reading : ℕ → Reading) (onward : Onward) → next_of old.left ≢ next.Nothing → ((t : List ℕ) → next_reads m reading (next_of old.left) t ≡ r t)
       → Keeps (level_reads m reading old onward) (level_reads m reading new onward) s u result
-  pub taken : OnOk result (length u < length s)
+  pub taken : Cuts s u result
   pub reach : Unless result (reach_of new.left ≤ reach_of old.left)
 
 -- All that is open took bytes of what comes next.
 pub record Moves (ns : List Node) (tags : List ℕ) (max : ℕ) (old new : Open) (s u : List ℕ) (result : Result (Unit {0}) Stop) : Type 0 where
   pub keeps : (reading : ℕ → Reading) → AreRead max ns tags reading → Keeps (opened max reading old) (opened max reading new) s u result
-  pub taken : OnOk result (length u < length s)
+  pub taken : Cuts s u result
   pub reaches : Unless result (Reaches (length ns) new)
 
 -- what comes next is read so

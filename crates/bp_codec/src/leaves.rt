@@ -1,8 +1,9 @@
 // Leaves that stand side by side in a list are read in one go, straight into its values.
 
-ghost use Rattle.std.specs.Prelude.{◌^◌, ◌<◌, length, OnOk};
+ghost use Rattle.std.specs.Prelude.{◌^◌, ◌<◌};
 ghost use Rattle.readers.specs.Reader.{one};
 ghost use Rattle.bp_grammar.specs.Spells.{char_of, unit_of};
+ghost use Rattle.bp_codec.specs.Keeping.{Cuts};
 ghost use Rattle.bp_codec.specs.Leaves.{bool_value, number_value, text_value, TakesItems};
 ghost use Rattle.bp_codec.specs.Levels.{reach_of};
 ghost use Rattle.bp_codec.specs.Taking.{Takes};
@@ -93,7 +94,7 @@ fn numbers(
 ) -> Result<(), Stop>
     ensures keeps { TakesItems (number_value kind) count.old values.old.items
         count.new values.new.items rest.old.now rest.new.now result }
-    ensures taken { OnOk result (length rest.new.now < length rest.old.now) }
+    ensures taken { Cuts rest.old.now rest.new.now result }
 {
     'numbers: loop {
         match number_at(rest, kind) {
@@ -118,7 +119,7 @@ fn texts(
     requires { max < 2 ^ 62 }
     ensures keeps { TakesItems (text_value max) count.old values.old.items
         count.new values.new.items rest.old.now rest.new.now result }
-    ensures taken { OnOk result (length rest.new.now < length rest.old.now) }
+    ensures taken { Cuts rest.old.now rest.new.now result }
 {
     'texts: loop {
         match text_at(rest, alloc, max) {

@@ -1,6 +1,7 @@
 // The machine: values are read until one is whole, or bytes are missing or at fault.
 
 ghost use Rattle.std.specs.Prelude.{◌≡◌, ◌^◌, ◌<◌, ◌≤◌, ℕ, length, Err, OnOk};
+ghost use Rattle.bp_codec.specs.Keeping.{LeavesSome};
 ghost use Rattle.bp_codec.specs.Levels.{next_of};
 ghost use Rattle.bp_codec.specs.Opened.{IsNoParts, Reaches};
 ghost use Rattle.bp_codec.specs.Taking.{EndsAll, Moves};
@@ -33,6 +34,7 @@ impl Open {
             rest.old.now rest.new.now result }
         ensures reach { result ≡ Err Stop.More → Reaches (length plan.now.nodes.items) self.new }
         ensures left { OnOk result (length rest.new.now ≤ length rest.old.now) }
+        ensures cut { result ≡ Err Stop.More → LeavesSome rest.old.now rest.new.now }
     {
         'values: loop {
             match self.settle(alloc) {
