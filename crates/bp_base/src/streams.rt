@@ -1,9 +1,11 @@
 // Std's readers and writers as sources and sinks.
 ghost use Rattle.std.specs.Prelude.{◌≡◌, ℕ, None, false};
-ghost use Rattle.bp_base.specs.Told.{TellsAlike};
+ghost use Rattle.bp_base.specs.Told.{StillTells, at_first, told_since};
 
 use crate::{Finished, Patience, ReadGot, Sink, Source, Wrote};
 use std::io::{Read, Write};
+use std::mem::ManuallyDrop;
+use std::snapshot::Snapshot;
 
 /// How many bytes a read asks of its stream at most.
 const CHUNK: usize = 8 * 1024;
@@ -13,20 +15,23 @@ const CHUNK: usize = 8 * 1024;
 #[derive(Drop)]
 pub struct StreamSource<T: Read> {
     stream: T,
+    // The reader as it was at first, for contracts alone.
+    first: ManuallyDrop<Snapshot<T>>,
     ended: bool,
     faults: u64,
-    ghost alike: { TellsAlike T.remaining },
+    ghost still: { StillTells (T.remaining (at_first first)) (T.remaining stream) },
 }
 
 impl<T: Read> StreamSource<T> {
-    /// A source over a reader of a type whose readers all tell the bytes that remain, or none does.
+    /// A source over any reader. One that tells contracts nothing at first may tell the bytes that
+    /// remain after some reads; the source goes on to tell nothing.
     pub fn new(stream: T) -> Self
-        requires { TellsAlike T.remaining }
         ensures left { ⟦<StreamSource<T> as Source>⟧.left result ≡ T.remaining stream }
         ensures ended { ⟦<StreamSource<T> as Source>⟧.ended result ≡ false }
         ensures faults { ⟦<StreamSource<T> as Source>⟧.faults result ≡ 0 }
     {
         StreamSource {
+            first: ManuallyDrop::new(Snapshot::of(&stream)),
             stream,
             ended: false,
             faults: 0,
@@ -39,7 +44,7 @@ impl<T: Read> Source for StreamSource<T> {
 
     ghost given = { λ _. None };
 
-    ghost left = { λ s. T.remaining s.stream };
+    ghost left = { λ s. told_since (T.remaining (at_first s.first)) (T.remaining s.stream) };
 
     ghost ended = { λ s. s.ended };
 
@@ -68,25 +73,31 @@ impl<T: Read> Source for StreamSource<T> {
 #[derive(Drop)]
 pub struct StreamSink<T: Write> {
     stream: T,
+    // The writer as it was at first, for contracts alone.
+    first: ManuallyDrop<Snapshot<T>>,
     faults: u64,
-    ghost alike: { TellsAlike T.contents },
+    ghost still: { StillTells (T.contents (at_first first)) (T.contents stream) },
 }
 
 impl<T: Write> StreamSink<T> {
-    /// A sink over a writer of a type whose writers all tell what they hold, or none does.
+    /// A sink over any writer. One that tells contracts nothing at first may tell what it holds
+    /// after some writes; the sink goes on to tell nothing.
     pub fn new(stream: T) -> Self
-        requires { TellsAlike T.contents }
         ensures put { ⟦<StreamSink<T> as Sink>⟧.put result ≡ T.contents stream }
         ensures faults { ⟦<StreamSink<T> as Sink>⟧.faults result ≡ 0 }
     {
-        StreamSink { stream, faults: 0 }
+        StreamSink {
+            first: ManuallyDrop::new(Snapshot::of(&stream)),
+            stream,
+            faults: 0,
+        }
     }
 }
 
 impl<T: Write> Sink for StreamSink<T> {
     ghost faults = { λ s. s.faults };
 
-    ghost put = { λ s. T.contents s.stream };
+    ghost put = { λ s. told_since (T.contents (at_first s.first)) (T.contents s.stream) };
 
     fn write(&mut self, piece: &[u8]) -> Wrote {
         match self.stream.write(piece) {

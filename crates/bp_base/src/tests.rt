@@ -1,6 +1,6 @@
 use crate::*;
 use std::alloc::{AllocError, Global};
-use std::io::BufWriter;
+use std::io::{BufWriter, Read, Write};
 use std::test::Fail;
 
 fn pieces(alloc: Global, texts: &[&[u8]]) -> Result<Vec<Vec<u8>>, AllocError> {
@@ -229,6 +229,29 @@ fn a_piece_is_written_whole_or_up_to_the_fault(rt: HostRuntime) -> Result<(), Fa
         Err(WriteFault { written: 1 })
     );
     assert_eq!(rt; sink.bytes(), b"abcd".as_slice());
+    Ok(())
+}
+
+// Whether all that a reader gives was written and flushed, of any reader and writer of std.
+fn carry<T: Read + Drop, U: Write + Drop>(
+    alloc: Global,
+    from: T,
+    to: U,
+) -> Result<bool, ReadAllError> {
+    let text = read_all(alloc, &mut StreamSource::new(from), 8)?;
+    let mut sink = StreamSink::new(to);
+    Ok(write_all(&mut sink, &text).is_ok() && sink.finish() == Finished::Done)
+}
+
+#[test]
+fn a_reader_and_a_writer_of_any_kind_will_do(rt: HostRuntime) -> Result<(), Fail> {
+    let alloc = rt.alloc();
+    let mut bytes = b"abc".as_slice();
+    let mut list = Vec::new(alloc);
+    let reader: &mut dyn Read = &mut bytes;
+    let writer: &mut dyn Write = &mut list;
+    assert!(rt; carry(alloc, reader, writer)?);
+    assert_eq!(rt; list.as_slice(), b"abc".as_slice());
     Ok(())
 }
 
