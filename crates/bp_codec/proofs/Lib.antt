@@ -22,3 +22,4 @@ pub mod WrittenLayers
 pub mod Leaving
 pub mod Putting
 pub mod Writable
+pub mod Pieces

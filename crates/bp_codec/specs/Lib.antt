@@ -12,3 +12,5 @@ pub mod Decoded
 pub mod Fitting
 pub mod Puts
 pub mod Rooms
+pub mod Held
+pub mod Fed

@@ -1,5 +1,5 @@
 // The value that stands in front of some bytes.
-ghost use Rattle.std.specs.Prelude.{◌≡◌, ◌^◌, ◌≤◌, ◌++◌, ℕ, List, length, IfOk};
+ghost use Rattle.std.specs.Prelude.{◌≡◌, ◌^◌, ◌<◌, ◌≤◌, ◌++◌, ℕ, List, length, IfOk};
 ghost use Rattle.bp_value.specs.Form.{form_of};
 ghost use Rattle.bp_value.specs.Faults.{IsGood};
 ghost use Rattle.bp_value.specs.declared.value.Value as value;
@@ -7,9 +7,7 @@ ghost use Rattle.bp_grammar.specs.Spells.{Spells};
 ghost use Rattle.bp_codec.specs.Decoded.{HasNodes, NoneBegins, IsDecoded};
 ghost use Rattle.bp_codec.specs.declared.decoding.Decoded.TheVariants as decoded;
 
-use crate::open::Open;
-use crate::plan::Plan;
-use crate::stop::Stop;
+use crate::reader::Reader;
 use bp_num::Why;
 use bp_value::{OutOfMemory, Shape, Value};
 use std::alloc::Global;
@@ -48,19 +46,14 @@ pub fn decode(
     ensures apart { NoneBegins max_len (form_of shape.now) }
     ensures nodes { IfOk result HasNodes }
 {
-    let plan = Plan::new(alloc, shape)?;
-    let mut open = Open::root(alloc);
-    let mut rest = bytes;
-    match open.run(alloc, &plan, &mut rest, max_len) {
-        Ok(value) => Ok(Decoded::Whole {
-            value,
-            used: bytes.len() - rest.len(),
-        }),
-        Err(Stop::More) => Ok(Decoded::More),
-        Err(Stop::Bad(why)) => Ok(Decoded::Bad {
-            at: bytes.len() - rest.len(),
-            why,
-        }),
-        Err(Stop::OutOfMemory) => Err(OutOfMemory),
-    }
+    let mut reader = Reader::new(alloc, shape, max_len)?;
+    countable(bytes);
+    reader.feed(bytes)
+}
+
+// What the type of bytes says of their number, for the proof.
+fn countable(bytes: &[u8])
+    ensures { length bytes.now < 2 ^ 64 }
+{
+    let _ = bytes.len();
 }

@@ -17,11 +17,13 @@ mod decoding;
 mod encoding;
 mod error;
 mod heads;
+mod held;
 mod leaves;
 mod levels;
 mod numbers;
 mod open;
 mod plan;
+mod reader;
 mod run;
 mod sexps;
 mod sizing;
@@ -31,6 +33,7 @@ mod taking;
 pub use decoding::{Decoded, decode};
 pub use encoding::encode;
 pub use error::EncodeError;
+pub use reader::Reader;
 pub use sizing::size;
 
 #[cfg(test)]

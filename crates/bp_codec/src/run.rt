@@ -21,13 +21,7 @@ impl Open {
     ///
     /// Each turn takes at least one byte. Where bytes are missing, the cursor stands where the next
     /// head begins.
-    pub fn run(
-        &mut self,
-        alloc: Global,
-        plan: &Plan,
-        rest: &mut &[u8],
-        max: u64,
-    ) -> Result<Value, Stop>
+    fn run(&mut self, alloc: Global, plan: &Plan, rest: &mut &[u8], max: u64) -> Result<Value, Stop>
         requires reach { Reaches (length plan.now.nodes.items) self.old }
         requires limit { max < 2 ^ 62 }
         ensures ends { EndsAll plan.now.nodes.items plan.now.tags.items max self.old self.new
@@ -45,6 +39,26 @@ impl Open {
             let next = self.descend(alloc, plan)?;
             self.take(alloc, plan, next, rest, max)?;
         }
+    }
+
+    /// Reads on in some bytes, and answers what is left of them.
+    pub fn read_on<'a>(
+        &mut self,
+        alloc: Global,
+        plan: &Plan,
+        bytes: &'a [u8],
+        max: u64,
+    ) -> (Result<Value, Stop>, &'a [u8])
+        requires reach { Reaches (length plan.now.nodes.items) self.old }
+        requires limit { max < 2 ^ 62 }
+        ensures ends { EndsAll plan.now.nodes.items plan.now.tags.items max self.old self.new
+            bytes.now result.1.now result.0 }
+        ensures reach { result.0 ≡ Err Stop.More → Reaches (length plan.now.nodes.items) self.new }
+        ensures cut { result.0 ≡ Err Stop.More → LeavesSome bytes.now result.1.now }
+    {
+        let mut rest = bytes;
+        let result = self.run(alloc, plan, &mut rest, max);
+        (result, rest)
     }
 
     // Reads what comes next, or its head: at least one byte.
