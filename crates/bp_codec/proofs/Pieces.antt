@@ -1,5 +1,7 @@
 -- What a reader answers for a piece is what decoding says of all bytes that were fed.
 use Rattle.std.proofs.Common.{◌≡◌, refl, sym, ap, ◌∙◌, subst, ℕ, ◌+◌, ◌-◌, ◌^◌, ◌≤◌, min, List, [], ◌∷◌, ◌++◌, length, append_assoc, zero-add, ◌<◌, Result, Ok, Err, IfOk, ◌⊎◌, inl, inr, arith}
+use Rattle.std.specs.Prelude.{MatchOption, Option, Some, None}
+use Rattle.std.specs.Option.{unwrap_or}
 use Rattle.std.proofs.lemmas.List.{append-nil, length-append}
 use Rattle.readers.specs.Reader.{Outcome, whole, more, bad, Each, IsByte, Any, Front, FaultAt, Right, Stands, IsFaultAt}
 use Rattle.readers.proofs.Readers.{cut_two, each-join, follows-any, snoc}
@@ -137,6 +139,11 @@ outcome_of (Ok v) u = whole v u
 outcome_of (Err stop.More) u = more
 outcome_of (Err (stop.Bad w)) u = bad (length u) w
 outcome_of (Err stop.OutOfMemory) u = more
+
+-- a copy is held, or else what was held already
+pub kept_by : {V : Type 0} (copy : Option V) (held : V) (items : V → List ℕ) (rest : List ℕ) → MatchOption copy (items held ≡ rest) (λ v. items v ≡ rest) → items (unwrap_or copy held) ≡ rest
+kept_by None held items rest same = same
+kept_by (Some v) held items rest same = same
 
 pub left_some : (before piece after view bytes rest : List ℕ) → IsHeld before piece after → view ≡ after → ((h : List ℕ) → IsHeld h piece view → bytes ≡ h ++ piece)
     → LeavesSome bytes rest → LeavesSome (before ++ piece) rest

@@ -116,10 +116,7 @@ impl Reader {
                 Ok(Decoded::Bad { at, why })
             }
             Stop::More => {
-                if let Some(rest) = copied(self.alloc, &held, piece, rest)? {
-                    held = rest;
-                }
-                self.held = held;
+                self.held = copied(self.alloc, &held, piece, rest)?.unwrap_or(held);
                 self.progress = Progress::Reading(Machine { plan, levels });
                 Ok(Decoded::More)
             }
