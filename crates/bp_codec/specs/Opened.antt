@@ -1,5 +1,6 @@
 -- What is still read by all that is open, and how opening and closing levels leaves it.
-use Rattle.std.specs.Prelude.{◌≡◌, ◌≢◌, ℕ, ◌<◌, ◌≤◌, Option, Some, None, List, [], ◌∷◌, ◌++◌, length, slice_get}
+use Rattle.std.specs.Prelude.{◌≡◌, ◌≢◌, ℕ, suc, ◌<◌, ◌≤◌, Option, Some, None, List, [], ◌∷◌, ◌++◌, length, slice_get}
+use Rattle.std.specs.Vec.{vec_capacity}
 use Rattle.readers.specs.Reader.{whole}
 use Rattle.bp_value.specs.declared.value.Value.{Value}
 use Rattle.bp_codec.specs.Plan.{Reading, AreRead}
@@ -40,6 +41,10 @@ pub record Opens (old : Open) (l : Left) (k : Makes) (new : Open) : Type 0 where
   pub outer_left : outer.left ≡ advanced old.top.left
   pub outer_makes : outer.makes ≡ old.top.makes
   pub outer_values : outer.values.items ≡ old.top.values.items
+
+-- a level that was opened has room for no more values than there are bytes
+abbrev pub HasRoom : Open → Open → List ℕ → Type 0
+HasRoom old new s = length new.stack.items ≡ suc (length old.stack.items) → vec_capacity new.top.values ≤ length s
 
 -- reading goes on as before
 abbrev pub IsSame : Open → Open → Type 0

@@ -1,6 +1,7 @@
 // All that is open while a value is read.
 
 ghost use Rattle.std.specs.Prelude.{◌^◌, ◌≢◌, ℕ, ◌<◌, length, OnOk, IfOk, IfErr, ◌≡◌};
+ghost use Rattle.std.specs.Vec.{vec_capacity};
 ghost use Rattle.bp_codec.specs.Levels.{next_of, reach_of};
 ghost use Rattle.bp_codec.specs.declared.levels.Next.TheVariants as next;
 
@@ -45,6 +46,7 @@ impl Open {
     ) -> Result<(), Stop>
         requires { reach_of self.old.top.left < 2 ^ 64 }
         ensures ok { OnOk result (Opens self.old left makes self.new) }
+        ensures room { OnOk result (vec_capacity self.new.top.values ≡ room) }
         ensures only { IfErr result (λ error. error ≡ Stop.OutOfMemory) }
     {
         let level = Level {

@@ -4,6 +4,7 @@ ghost use Rattle.std.specs.Prelude.{◌≡◌, ◌^◌, ◌<◌, ℕ, length, ta
 ghost use Rattle.readers.specs.Reader.{mapped};
 ghost use Rattle.bp_codec.specs.Levels.{reach_of};
 ghost use Rattle.bp_codec.specs.Nodes.{AreCases, IsCase};
+ghost use Rattle.bp_codec.specs.Opened.{HasRoom};
 ghost use Rattle.bp_codec.specs.Plan.{args_in};
 ghost use Rattle.bp_codec.specs.Taking.{EntersCase, TakesAt, TakesNode, TakesPoly, TakesSexp};
 ghost use Rattle.bp_codec.specs.declared.plan.Node.TheVariants as node;
@@ -51,8 +52,9 @@ impl Open {
     ) -> Result<(), Stop>
         requires reach { reach_of self.old.top.left < 2 ^ 64 }
         requires limit { max < 2 ^ 62 }
-        ensures { TakesNode max (node.List item) self.old self.new
+        ensures moves { TakesNode max (node.List item) self.old self.new
             rest.old.now rest.new.now result }
+        ensures room { OnOk result (HasRoom self.old self.new rest.new.now) }
     {
         match length_at(rest, max) {
             Ok(count) => {
@@ -139,7 +141,8 @@ impl Open {
     ) -> Result<(), Stop>
         requires reach { reach_of self.old.top.left < 2 ^ 64 }
         requires limit { max < 2 ^ 62 }
-        ensures { TakesSexp max depth self.old self.new rest.old.now rest.new.now result }
+        ensures moves { TakesSexp max depth self.old self.new rest.old.now rest.new.now result }
+        ensures room { OnOk result (HasRoom self.old self.new rest.new.now) }
     {
         // A list has no items where they would be too deep.
         let Some(depth) = depth.checked_sub(1) else {

@@ -19,7 +19,7 @@ placed : (p : Plan) → ArePlaced p.nodes.items p.tags.items
 placed p = record { opts = p.opts; lists = p.lists; parts = p.parts; sums = p.sums; polys = p.polys; args = p.args }
 
 pub returns-in-Sexp : goal.returns-in-Sexp
-returns-in-Sexp c = c.take_sexp.ensures c.args.plan.now.nodes.items c.args.plan.now.tags.items (sexp_next c.args.plan.now.nodes.items c.args.plan.now.tags.items c.args.max c.args.self.now c.in-Sexp.depth (c.requires.next ∙ c.in-Sexp.is)) c.requires.reach
+returns-in-Sexp c = c.take_sexp.ensures.moves c.args.plan.now.nodes.items c.args.plan.now.tags.items (sexp_next c.args.plan.now.nodes.items c.args.plan.now.tags.items c.args.max c.args.self.now c.in-Sexp.depth (c.requires.next ∙ c.in-Sexp.is)) c.requires.reach
 
 pub take_sum-requires-clause-cases : goal.take_sum-requires-clause-cases
 take_sum-requires-clause-cases c = let comes = comes_next c.args.plan.now.nodes.items c.args.self.now c.args.next c.in-Node.place c.index.result.now (node.Sum c.in-Sum.first c.in-Sum.count) c.requires.next c.in-Node.is c.requires.parts c.index.ensures c.in-Sum.is in c.args.plan.now.sums comes.place c.in-Sum.first c.in-Sum.count comes.at
@@ -63,7 +63,7 @@ pub returns-in-Opt : goal.returns-in-Opt
 returns-in-Opt c = c.take_option.ensures c.args.max c.args.plan.now.nodes.items c.args.plan.now.tags.items (placed c.args.plan.now) (comes_next c.args.plan.now.nodes.items c.args.self.now c.args.next c.in-Node.place c.index.result.now (node.Opt c.in-Opt.item) c.requires.next c.in-Node.is c.requires.parts c.index.ensures c.in-Opt.is) c.requires.reach
 
 pub returns-in-List : goal.returns-in-List
-returns-in-List c = c.take_list.ensures c.args.plan.now.nodes.items c.args.plan.now.tags.items (placed c.args.plan.now) (comes_next c.args.plan.now.nodes.items c.args.self.now c.args.next c.in-Node.place c.index.result.now (node.List c.in-List.item) c.requires.next c.in-Node.is c.requires.parts c.index.ensures c.in-List.is) c.requires.reach
+returns-in-List c = c.take_list.ensures.moves c.args.plan.now.nodes.items c.args.plan.now.tags.items (placed c.args.plan.now) (comes_next c.args.plan.now.nodes.items c.args.self.now c.args.next c.in-Node.place c.index.result.now (node.List c.in-List.item) c.requires.next c.in-Node.is c.requires.parts c.index.ensures c.in-List.is) c.requires.reach
 
 pub returns-in-Sum : goal.returns-in-Sum
 returns-in-Sum c = c.take_sum.ensures c.args.max (comes_next c.args.plan.now.nodes.items c.args.self.now c.args.next c.in-Node.place c.index.result.now (node.Sum c.in-Sum.first c.in-Sum.count) c.requires.next c.in-Node.is c.requires.parts c.index.ensures c.in-Sum.is) c.requires.reach
@@ -73,7 +73,7 @@ tags_at-tags-requires c = let comes = (comes_next c.args.plan.now.nodes.items c.
 
 pub returns-in-Sexp-index : goal.returns-in-Sexp-index
 returns-in-Sexp-index c =
-    c.take_sexp-in-Sexp-index.ensures c.args.plan.now.nodes.items c.args.plan.now.tags.items (sexp_node c.args.plan.now.nodes.items c.args.plan.now.tags.items c.args.max c.args.self.now (comes_next c.args.plan.now.nodes.items c.args.self.now c.args.next c.in-Node.place c.index.result.now (node.Sexp) c.requires.next c.in-Node.is c.requires.parts c.index.ensures c.in-Sexp-index.is)) c.requires.reach
+    c.take_sexp-in-Sexp-index.ensures.moves c.args.plan.now.nodes.items c.args.plan.now.tags.items (sexp_node c.args.plan.now.nodes.items c.args.plan.now.tags.items c.args.max c.args.self.now (comes_next c.args.plan.now.nodes.items c.args.self.now c.args.next c.in-Node.place c.index.result.now (node.Sexp) c.requires.next c.in-Node.is c.requires.parts c.index.ensures c.in-Sexp-index.is)) c.requires.reach
 
 pub returns-in-Args : goal.returns-in-Args
 returns-in-Args c = args_stop c.args.plan.now.nodes.items c.args.plan.now.tags.items c.args.max c.in-Args.first c.in-Args.count c.args.self.now c.args.rest.now.now (comes_next c.args.plan.now.nodes.items c.args.self.now c.args.next c.in-Node.place c.index.result.now (node.Args c.in-Args.first c.in-Args.count) c.requires.next c.in-Node.is c.requires.parts c.index.ensures c.in-Args.is) c.requires.reach

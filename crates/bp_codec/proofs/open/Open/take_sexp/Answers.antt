@@ -33,15 +33,15 @@ module _ (ns : List Node) (tags : List ℕ) (max depth d : ℕ) (old : Open) (de
   head_reads reading are t = isnext.1 reading are t ∙ (ap (λ k. sexp_value max k t) deep ∙ sexp_is max d t)
 
 -- no S-expression is so deep
-pub returns-in_default : goal.returns-in_default
+pub returns-in_default-clause-moves : goal.returns-in_default-clause-moves
 unfolding read_sexp
-returns-in_default c = λ ns tags isnext reach.
+returns-in_default-clause-moves c = λ ns tags isnext reach.
     let none : c.args.depth ≡ 0 = no_more c.checked_sub.result c.args.depth c.checked_sub.ensures c.in_default.not-Some in
     next_stops {A = ℕ} (λ t. more) (λ s x. tt) (λ reading n t. more) ns tags c.args.max c.args.self.now c.args.rest.now.now c.args.rest.now.now isnext.0
     (λ reading are t. isnext.1 reading are t ∙ ap (λ k. sexp_value c.args.max k t) none) reach stop.More (refl, refl)
 
-pub returns-in-Ok-Atom : goal.returns-in-Ok-Atom
-returns-in-Ok-Atom c = λ ns tags isnext reach.
+pub returns-in-Ok-Atom-clause-moves : goal.returns-in-Ok-Atom-clause-moves
+returns-in-Ok-Atom-clause-moves c = λ ns tags isnext reach.
     let max = c.args.max in
     let d = c.in-Some.depth in
     let deep : c.args.depth ≡ suc d = one_more c.checked_sub.result c.args.depth d c.checked_sub.ensures c.in-Some.is in
@@ -49,8 +49,8 @@ returns-in-Ok-Atom c = λ ns tags isnext reach.
     (head_reads ns tags max c.args.depth d c.args.self.now deep isnext) reach (head.Atom c.in-Ok-Atom.text) (val.Sexp (sx.Atom c.in-Ok-Atom.text)) c.put.new.self c.put.result
     (rw c.in-Ok-Atom.field-0-is at c.in-Ok-Atom.ensures) (λ reading t. refl) c.put.ensures.ok c.put.ensures.only
 
-pub returns-in-Ok-List : goal.returns-in-Ok-List
-returns-in-Ok-List c = λ ns tags isnext reach.
+pub returns-in-Ok-List-clause-moves : goal.returns-in-Ok-List-clause-moves
+returns-in-Ok-List-clause-moves c = λ ns tags isnext reach.
     let max = c.args.max in
     let d = c.in-Some.depth in
     let n = c.in-Ok-List.count in
@@ -59,8 +59,8 @@ returns-in-Ok-List c = λ ns tags isnext reach.
     (head_reads ns tags max c.args.depth d c.args.self.now deep isnext) reach (head.List n) (left.Sexps d n) makes.Sexp c.begin.new.self c.begin.result
     (rw c.in-Ok-List.field-0-is at c.in-Ok-List.ensures) (omega arith) (λ reading t are. sexps_made max d n reading t) c.begin.ensures.ok c.begin.ensures.only
 
-pub returns-in-Err : goal.returns-in-Err
-returns-in-Err c = λ ns tags isnext reach.
+pub returns-in-Err-clause-moves : goal.returns-in-Err-clause-moves
+returns-in-Err-clause-moves c = λ ns tags isnext reach.
     let max = c.args.max in
     let d = c.in-Some.depth in
     let deep : c.args.depth ≡ suc d = one_more c.checked_sub.result c.args.depth d c.checked_sub.ensures c.in-Some.is in
