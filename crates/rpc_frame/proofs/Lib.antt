@@ -1,0 +1,5 @@
+pub mod HeadSteps
+pub mod FrameReads
+pub mod FeedSteps
+pub mod HeldSteps
+pub mod Streams
