@@ -43,7 +43,7 @@ impl Head {
         }
     }
 
-    /// WouldTake length bytes from the front of a piece.
+    /// Takes length bytes from the front of a piece.
     pub fn read_on(self, piece: &[u8], max: u64) -> HeadRead
         requires head { IsHead max self }
         ensures { IsHeadRead max self piece.now result }

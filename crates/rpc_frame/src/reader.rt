@@ -17,8 +17,8 @@ pub struct Fed {
     pub frame: Option<Blob>,
 }
 
-/// WouldTake a stream of frames in pieces of any size, and gives their bodies. It holds the bytes of the
-/// frame that has begun, and never makes room for more than has come.
+/// Takes a stream of frames in pieces of any size, and gives their bodies. It holds the bytes of
+/// the frame that has begun, and makes room as they come.
 #[derive(Drop)]
 pub struct FrameReader {
     max: u64,
@@ -65,7 +65,7 @@ impl FrameReader {
         }
     }
 
-    /// WouldTake bytes up to the end of the first frame that ends in the piece, or all of it.
+    /// Takes bytes up to the end of the first frame that ends in the piece, or all of it.
     ///
     /// A length that is too long is refused at its byte: the bytes up to there, and it, count as
     /// taken, and each later feed is refused. The time is linear in the bytes taken.
@@ -145,7 +145,7 @@ impl FrameReader {
         }
     }
 
-    /// WouldTake back a feed that gave this body and took `used` bytes, at a place before it: the
+    /// Takes back a feed that gave this body and took `used` bytes, at a place before it: the
     /// bytes of the body's frame before these are held again.
     pub fn undo(&mut self, body: Blob, used: usize, place: u64)
         requires going { self.old.failed ≡ None }

@@ -3,11 +3,8 @@
 use Rattle.std.specs.Prelude.{Option, Some, None, ◌≡◌, ℕ, ◌≤◌, List, [], ◌∷◌, ◌++◌, length}
 use Rattle.std.specs.Char.{is_ascii_lowercase}
 use Rattle.std.specs.List.{AllPass}
-use Rattle.bp_num.specs.Forms.{little_endian, written_nat}
-
--- a frame: the length of its body in eight bytes, the low byte first, and then the body
-abbrev pub frame : List ℕ → List ℕ
-frame body = little_endian 8 (length body) ++ body
+use Rattle.bp_num.specs.Forms.{written_nat}
+use Rattle.rpc_frame.specs.Frames.{frame}
 
 -- what each end sends first: the frame of the list of its protocol versions, which is [1]
 unfoldable pub header : List ℕ
