@@ -1,3 +1,4 @@
 pub mod Words
 pub mod ValueStarts
 pub mod RightValues
+pub mod RightShapes

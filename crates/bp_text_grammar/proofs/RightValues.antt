@@ -11,8 +11,8 @@ use Rattle.bp_value.specs.Limits.{deepest_sexp}
 use Rattle.bp_value.specs.Form.{Form, Parts, Cases, unit, bool, char, int, int32, int64, text, opt, listed, tuple, fields, sum, poly, sexp, end, part, end_cases, case}
 use Rattle.bp_value.specs.Faults.{IsGood}
 use Rattle.bp_text_grammar.specs.Tokens.{Token, Word, Number, Text, Char, Mark}
-use Rattle.bp_text_grammar.specs.Texts.{Why, BadText, round_open, round_close, comma, semicolon, equals, square_open, square_close, backtick, curly_open, curly_close, is_mark, is_word, word, IsMark, mark_at, IsWord, word_at, Closed, closed_at, Onto}
-use Rattle.bp_text_grammar.specs.ValueTexts.{bool_of, char_of, number, text_of, atom_of, case_of, Items, Label, Inside, IsSexpTokens, IsValueTokens, ArePartTokens, AreMorePartTokens, AreFieldTokens, AreMoreFieldTokens, AreCaseTokens, AreArgumentTokens, onto_at, items_at, label_at, inside_at, sexp_at, value_at, parts_at, more_parts_at, fields_at, more_fields_at, case_at, arguments_at}
+use Rattle.bp_text_grammar.specs.Texts.{Why, BadText, round_open, round_close, comma, semicolon, equals, square_open, square_close, backtick, curly_open, curly_close, is_mark, is_word, word, IsMark, mark_at, IsWord, word_at, Closed, closed_at, Onto, onto_at}
+use Rattle.bp_text_grammar.specs.ValueTexts.{bool_of, char_of, number, text_of, atom_of, case_of, Items, Label, Inside, IsSexpTokens, IsValueTokens, ArePartTokens, AreMorePartTokens, AreFieldTokens, AreMoreFieldTokens, AreCaseTokens, AreArgumentTokens, items_at, label_at, inside_at, sexp_at, value_at, parts_at, more_parts_at, fields_at, more_fields_at, case_at, arguments_at}
 use Rattle.bp_text_grammar.proofs.Words.{Reads, HasText, mark_text, mark_reads, mark_begins, marks_apart, word_same, word_reads, word_begins, word_begins_not, map_begins, then_reads, mapped_reads, after_mark_reads, mapped_text, closed_reads, onto_text, onto_reads}
 use Rattle.bp_text_grammar.proofs.ValueStarts.{IsRead, ArePartsRead, AreCasesRead, case_count, good_read, some_named, case_within, leaf_begins, after_label, value_begins, sexp_begins, inside_text, items_text, value_text, chosen_text, parts_text, more_parts_text, fields_text, more_fields_text, case_text}
 

@@ -1,6 +1,6 @@
 -- The words of the grammars are read rightly, and what their texts begin with.
-use Rattle.std.proofs.Common.{◌≡◌, refl, ap, ◌∙◌, Some, None, Bool, true, false, ◌&&◌, ℕ, nat_eq, List, [], ◌∷◌, ◌++◌, arith}
-use Rattle.readers.specs.Reader.{Outcome, after, mapped, Any, Is, IsNot, Right, Plain, Then, Mapped, One, one, Begins}
+use Rattle.std.proofs.Common.{◌≡◌, refl, sym, ap, ◌∙◌, Some, None, Bool, true, false, ◌&&◌, ℕ, nat_eq, List, [], ◌∷◌, ◌++◌, arith}
+use Rattle.readers.specs.Reader.{Outcome, whole, more, bad, after, mapped, Any, Is, IsNot, Right, Plain, Then, Mapped, One, one, Begins}
 use Rattle.readers.proofs.Readers.{follows-any, right_mapped}
 use Rattle.readers.proofs.Leaves.{pick_true, plain_one, plain_then, one_begins}
 use Rattle.bp_text_grammar.specs.Tokens.{Token, Word, Mark}
@@ -56,7 +56,7 @@ mark_text m = (Mark m, refl, mark_same m)
 pub mark_reads : (m : ℕ) → Reads Any (IsMark m) (mark_at m)
 mark_reads m = plain_one Any (mark m) BadText (Mark m) tt (mark_same m)
 
-mark_is : (m : ℕ) (t : Token) → is_mark m t ≡ true → t ≡ Mark m
+pub mark_is : (m : ℕ) (t : Token) → is_mark m t ≡ true → t ≡ Mark m
 mark_is m (Mark b) e = ap Mark (equal e)
   where
     equal : nat_eq b m ≡ true → b ≡ m
@@ -87,15 +87,17 @@ word_text w = (Word w, refl, word_same w tt)
 pub word_begins : {A : Type 0} (w : List ℕ) (a : A) → Begins (Is (is_word w)) (One (word w a))
 word_begins w a = one_begins (Is (is_word w)) (word w a) (λ t b e. (when_is (is_word w t) a b e).0)
 
+pub words_is : (w : List ℕ) (t : Token) → is_word w t ≡ true → t ≡ Word w
+words_is w (Word x) e = ap Word (same_is x w e)
+words_is w _ e = absurd cc
+
 -- a word is no mark
 pub word_no_mark : (w : List ℕ) (m : ℕ) (t : Token) → is_word w t ≡ true → is_mark m t ≡ false
-word_no_mark w m (Word x) e = refl
-word_no_mark w m _ e = absurd cc
+word_no_mark w m t e = ap (λ x. is_mark m x) (words_is w t e)
 
 -- one word is no other
 pub words_apart : (v w : List ℕ) → same w v ≡ false → (t : Token) → is_word w t ≡ true → is_word v t ≡ false
-words_apart v w apart (Word x) e = ap (λ y. same y v) (same_is x w e) ∙ apart
-words_apart v w apart _ e = absurd cc
+words_apart v w apart t e = ap (λ x. is_word v x) (words_is w t e) ∙ apart
 
 pub word_begins_not : (v w : List ℕ) → same w v ≡ false → Begins (IsNot (is_word v)) (IsWord w)
 word_begins_not v w apart = one_begins (IsNot (is_word v)) (word w tt) (λ t b e. words_apart v w apart t (when_is (is_word w t) tt b e).0)
@@ -147,3 +149,35 @@ pub onto_reads : {A : Type 0} (E : Token → Type 0) (L : A → List Token → T
 onto_reads E L r M q first second has =
     then_reads E L r (λ v. Mapped (λ us. v ∷ us) M) (λ v us. mapped (λ vs. v ∷ vs) (q us)) first
     (λ v. mapped_reads E (λ us. v ∷ us) M q second) (λ v. mapped_text (λ us. v ∷ us) M has)
+
+-- ---- readers that differ in the reason alone
+
+abbrev pub blind : {S W A : Type 0} → Outcome S W A → Outcome S (Unit {0}) A
+blind (whole a u) = whole a u
+blind more = more
+blind (bad n w) = bad n tt
+
+module _ {S W A : Type 0} where
+  blind_whole : (o : Outcome S W A) (a : A) (u : List S) → blind o ≡ whole a u → o ≡ whole a u
+  blind_whole (whole b v) a u e = let ab : b ≡ a = cc in let uv : v ≡ u = cc in cc
+  blind_whole more a u e = absurd cc
+  blind_whole (bad n w) a u e = absurd cc
+
+  blind_more : (o : Outcome S W A) → blind o ≡ more → o ≡ more
+  blind_more (whole b v) e = absurd cc
+  blind_more more e = refl
+  blind_more (bad n w) e = absurd cc
+
+  blind_bad : (o : Outcome S W A) (n : ℕ) → blind o ≡ bad n tt → (w : W) × (o ≡ bad n w)
+  blind_bad (whole b v) n e = absurd cc
+  blind_bad more n e = absurd cc
+  blind_bad (bad k w) n e = let same : k ≡ n = cc in (w, ap (λ j. bad j w) same)
+
+pub right_blind : {S W A : Type 0} (V E : S → Type 0) (L : A → List S → Type 0) (r q : List S → Outcome S W A)
+    → ((s : List S) → blind (q s) ≡ blind (r s)) → Right V E L Plain r → Right V E L Plain q
+right_blind V E L r q same right = record {
+  sound = λ s a u vs h. right.sound s a u vs (blind_whole (r s) a u (sym (same s) ∙ ap blind h));
+  complete = λ a t u l f. blind_whole (q (t ++ u)) a u (same (t ++ u) ∙ ap blind (right.complete a t u l f));
+  goes_on = λ s vs h. right.goes_on s vs (blind_more (r s) (sym (same s) ∙ ap blind h));
+  faults = λ s n w vs h. let (x, e) = blind_bad (r s) n (sym (same s) ∙ ap blind h) in right.faults s n x vs e;
+}

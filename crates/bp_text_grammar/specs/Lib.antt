@@ -1,3 +1,4 @@
 pub mod Tokens
 pub mod Texts
 pub mod ValueTexts
+pub mod ShapeTexts

@@ -1,6 +1,6 @@
 -- The words of the grammars of texts: what one token is, and why one is at fault.
 use Rattle.std.specs.Prelude.{Option, Some, None, ℕ, Bool, true, false, ◌&&◌, nat_eq, if◌then◌else◌, List, [], ◌∷◌}
-use Rattle.readers.specs.Reader.{Outcome, mapped, Then, Mapped, One, one}
+use Rattle.readers.specs.Reader.{Outcome, after, mapped, Then, Mapped, One, one}
 use Rattle.bp_text_grammar.specs.Tokens.{Token, Word, Mark}
 
 -- why a token is at fault: it is the word `float` where a base of a shape may stand, or it is another that cannot stand
@@ -102,3 +102,6 @@ closed_at close ts = mapped (λ u. []) (mark_at close ts)
 -- a value, and then more values
 abbrev pub Onto : {A : Type 0} → (A → List Token → Type 0) → (List A → List Token → Type 0) → List A → List Token → Type 0
 Onto L M vs ts = Then L (λ v. Mapped (λ us. v ∷ us) M) vs ts
+
+abbrev pub onto_at : {A : Type 0} → (List Token → Outcome Token Why A) → (List Token → Outcome Token Why (List A)) → List Token → Outcome Token Why (List A)
+onto_at r q ts = after (r ts) (λ v us. mapped (λ vs. v ∷ vs) (q us))

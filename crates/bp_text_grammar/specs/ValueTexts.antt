@@ -1,6 +1,6 @@
 -- Which tokens are a text of which value of a form. A relation by cases over the form, without position or state; and the
 -- reading of them, a total function of the form and the tokens.
-use Rattle.std.specs.Prelude.{Option, Some, None, ℕ, ℤ, zero, suc, pos, negsuc, ◌^◌, Bool, true, false, nat_lt, if◌then◌else◌, List, [], ◌∷◌, length, codes}
+use Rattle.std.specs.Prelude.{Option, Some, None, ℕ, ℤ, zero, suc, pos, negsuc, ◌^◌, Bool, true, false, nat_lt, if◌then◌else◌, List, [], length, codes}
 use Rattle.std.specs.Option.{option_map}
 use Rattle.readers.specs.Reader.{Outcome, whole, more, after, mapped, Then, Mapped, Done, One, one, Branch, branch, Rest, rests}
 use Rattle.readers.specs.Until.{Until, until}
@@ -11,7 +11,7 @@ use Rattle.bp_value.specs.declared.value.Sexp.TheVariants as sx
 use Rattle.bp_value.specs.Limits.{deepest_sexp}
 use Rattle.bp_value.specs.Form.{Form, Parts, Cases, unit, bool, char, int, int32, int64, text, opt, listed, tuple, fields, sum, poly, sexp, end, part, end_cases, case}
 use Rattle.bp_text_grammar.specs.Tokens.{Token, Word, Number, Text, Char}
-use Rattle.bp_text_grammar.specs.Texts.{Why, BadText, round_open, round_close, comma, semicolon, equals, square_open, square_close, backtick, curly_open, curly_close, same, is_mark, is_word, when, word, IsMark, mark_at, IsWord, word_at, Closed, closed_at, Onto}
+use Rattle.bp_text_grammar.specs.Texts.{Why, BadText, round_open, round_close, comma, semicolon, equals, square_open, square_close, backtick, curly_open, curly_close, same, is_mark, is_word, when, word, IsMark, mark_at, IsWord, word_at, Closed, closed_at, Onto, onto_at}
 
 -- ---- leaves of one token
 
@@ -125,9 +125,6 @@ unfoldable mutual
   AreArgumentTokens (part name f fs) vs ts = Then (IsMark round_open) (λ u. Onto (IsValueTokens f) (AreMorePartTokens fs)) vs ts
 
 -- ---- the reading
-
-abbrev pub onto_at : {A : Type 0} → (List Token → Outcome Token Why A) → (List Token → Outcome Token Why (List A)) → List Token → Outcome Token Why (List A)
-onto_at r q ts = after (r ts) (λ v us. mapped (λ vs. v ∷ vs) (q us))
 
 abbrev pub items_at : {A : Type 0} → (List Token → Outcome Token Why A) → List Token → Outcome Token Why (List A)
 items_at r ts =
