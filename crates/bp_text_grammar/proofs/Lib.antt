@@ -1,3 +1,7 @@
+pub mod Twins
+pub mod TwinLists
+pub mod Told
+pub mod Blind
 pub mod Words
 pub mod ValueStarts
 pub mod RightValues

@@ -1,14 +1,12 @@
 -- The words of the grammars are read rightly, and what their texts begin with.
-use Rattle.std.proofs.Common.{◌≡◌, refl, sym, ap, ◌∙◌, Some, None, Bool, true, false, ◌&&◌, ℕ, nat_eq, List, [], ◌∷◌, ◌++◌, arith}
-use Rattle.readers.specs.Reader.{Outcome, whole, more, bad, after, mapped, Any, Is, IsNot, Right, Plain, Then, Mapped, One, one, Begins}
-use Rattle.readers.proofs.Readers.{follows-any, right_mapped}
-use Rattle.readers.proofs.Leaves.{pick_true, plain_one, plain_then, one_begins}
+use Rattle.std.proofs.Common.{◌≡◌, refl, ap, ◌∙◌, Some, None, Bool, true, false, ◌&&◌, ℕ, nat_eq, List, [], ◌∷◌, ◌++◌, codes, arith}
+use Rattle.readers.specs.Reader.{Outcome, after, mapped, Any, Is, IsNot, Then, Mapped, One, one, Begins}
+use Rattle.readers.proofs.Readers.{follows-any}
+use Rattle.readers.proofs.Leaves.{pick_true, one_begins}
 use Rattle.bp_text_grammar.specs.Tokens.{Token, Word, Mark}
 use Rattle.bp_text_grammar.specs.Texts.{Why, BadText, same, is_mark, is_word, when, mark, word, IsMark, mark_at, IsWord, Closed, closed_at, Onto}
-
--- a reader of tokens is right, whatever the reason that it gives
-abbrev pub Reads : {A : Type 0} → (Token → Type 0) → (A → List Token → Type 0) → (List Token → Outcome Token Why A) → Type 0
-Reads E L r = Right Any E L Plain r
+use Rattle.bp_text_grammar.proofs.Twins.{Own, NoWord, FloatWord, int_word, IsBlind}
+use Rattle.bp_text_grammar.proofs.Told.{Reads, one_reads, mapped_reads, meeting_reads}
 
 -- a language has a text
 abbrev pub HasText : {A : Type 0} → (A → List Token → Type 0) → Type 0
@@ -53,8 +51,8 @@ mark_same m = pick_true (nat_eq m m) (Some tt) None (grind arith)
 pub mark_text : (m : ℕ) → IsMark m tt (Mark m ∷ [])
 mark_text m = (Mark m, refl, mark_same m)
 
-pub mark_reads : (m : ℕ) → Reads Any (IsMark m) (mark_at m)
-mark_reads m = plain_one Any (mark m) BadText (Mark m) tt (mark_same m)
+pub mark_reads : {k : Own} (m : ℕ) → Reads k Any (IsMark m) (mark_at m)
+mark_reads m = one_reads (mark m) (Mark m) tt (mark_same m) (λ b own none. refl)
 
 pub mark_is : (m : ℕ) (t : Token) → is_mark m t ≡ true → t ≡ Mark m
 mark_is m (Mark b) e = ap Mark (equal e)
@@ -73,13 +71,17 @@ marks_apart m n apart t e = ap (λ x. is_mark m x) (mark_is n t e) ∙ apart
 pub mark_begins_not : (m n : ℕ) → nat_eq n m ≡ false → Begins (IsNot (is_mark m)) (IsMark n)
 mark_begins_not m n apart = one_begins (IsNot (is_mark m)) (mark n) (λ t u e. marks_apart m n apart t (when_is (is_mark n t) tt u e).0)
 
+-- no word has a reason of its own; or the word `float` alone, and then a test is blind that does not tell it from `int`
+pub none_blind : (C : Token → Bool) → IsBlind NoWord C
+none_blind C t own = absurd cc
+
 -- ---- a word
 
 pub word_same : {A : Type 0} (w : List ℕ) (a : A) → word w a (Word w) ≡ Some a
 word_same w a = pick_true (same w w) (Some a) None (same_refl w)
 
-pub word_reads : {A : Type 0} (w : List ℕ) (a : A) → Reads Any (One (word w a)) (one (word w a) BadText)
-word_reads w a = plain_one Any (word w a) BadText (Word w) a (word_same w a)
+pub word_reads : {A : Type 0} (w : List ℕ) (a : A) → Reads NoWord Any (One (word w a)) (one (word w a) BadText)
+word_reads w a = one_reads (word w a) (Word w) a (word_same w a) (λ b own none. absurd cc)
 
 pub word_text : (w : List ℕ) → IsWord w tt (Word w ∷ [])
 word_text w = (Word w, refl, word_same w tt)
@@ -90,6 +92,13 @@ word_begins w a = one_begins (Is (is_word w)) (word w a) (λ t b e. (when_is (is
 pub words_is : (w : List ℕ) (t : Token) → is_word w t ≡ true → t ≡ Word w
 words_is w (Word x) e = ap Word (same_is x w e)
 words_is w _ e = absurd cc
+
+pub float_blind : (C : Token → Bool) → C (Word (codes "float")) ≡ C int_word → IsBlind FloatWord C
+float_blind C same t own = ap C (words_is (codes "float") t own) ∙ same
+
+pub mark_blind : (k : Own) (m : ℕ) → IsBlind k (is_mark m)
+mark_blind NoWord m = none_blind (is_mark m)
+mark_blind FloatWord m = float_blind (is_mark m) refl
 
 -- a word is no mark
 pub word_no_mark : (w : List ℕ) (m : ℕ) (t : Token) → is_word w t ≡ true → is_mark m t ≡ false
@@ -108,15 +117,11 @@ pub map_begins : {A B : Type 0} (C : Token → Type 0) (g : A → B) (L : A → 
 map_begins C g L begins b ts (a, e, l) = begins a ts l
 
 -- where no text of the first begins another
-pub then_reads : {A B : Type 0} (E : Token → Type 0) (L : A → List Token → Type 0) (r : List Token → Outcome Token Why A) (M : A → B → List Token → Type 0)
-    (f : A → List Token → Outcome Token Why B) → Reads Any L r → ((a : A) → Reads E (M a) (f a)) → ((a : A) → HasText (M a))
-    → Reads E (Then L M) (λ ts. after (r ts) f)
+pub then_reads : {k : Own} {A B : Type 0} (E : Token → Type 0) (L : A → List Token → Type 0) (r : List Token → Outcome Token Why A) (M : A → B → List Token → Type 0)
+    (f : A → List Token → Outcome Token Why B) → Reads k Any L r → ((a : A) → Reads k E (M a) (f a)) → ((a : A) → HasText (M a))
+    → Reads k E (Then L M) (λ ts. after (r ts) f)
 then_reads E L r M f first second has =
-    plain_then Any Any E L r M f first second (λ a t l. has a) (λ a b u v m e. follows-any (u ++ v))
-
-pub mapped_reads : {A B : Type 0} (E : Token → Type 0) (g : A → B) (L : A → List Token → Type 0) (r : List Token → Outcome Token Why A)
-    → Reads E L r → Reads E (Mapped g L) (λ ts. mapped g (r ts))
-mapped_reads E g L r right = right_mapped Any E g L Plain r right
+    meeting_reads Any E L r M f first (λ a t l. second a) (λ a t l. has a) (λ a b u v m e. follows-any (u ++ v))
 
 pub then_text : {A B : Type 0} (L : A → List Token → Type 0) (M : A → B → List Token → Type 0) (a : A) (t : List Token) → L a t → HasText (M a) → HasText (Then L M)
 then_text L M a t l (b, u, m) = (b, t ++ u, (a, t, u, refl, l, m))
@@ -128,8 +133,8 @@ mapped_text g L (a, ts, l) = (g a, ts, (a, refl, l))
 pub after_mark : {B : Type 0} (m : ℕ) (M : B → List Token → Type 0) → HasText M → HasText (Then (IsMark m) (λ u. M))
 after_mark m M has = then_text (IsMark m) (λ u. M) tt (Mark m ∷ []) (mark_text m) has
 
-pub after_mark_reads : {B : Type 0} (E : Token → Type 0) (m : ℕ) (M : B → List Token → Type 0) (q : List Token → Outcome Token Why B)
-    → Reads E M q → HasText M → Reads E (Then (IsMark m) (λ u. M)) (λ ts. after (mark_at m ts) (λ u us. q us))
+pub after_mark_reads : {k : Own} {B : Type 0} (E : Token → Type 0) (m : ℕ) (M : B → List Token → Type 0) (q : List Token → Outcome Token Why B)
+    → Reads k E M q → HasText M → Reads k E (Then (IsMark m) (λ u. M)) (λ ts. after (mark_at m ts) (λ u us. q us))
 after_mark_reads E m M q right has = then_reads E (IsMark m) (mark_at m) (λ u. M) (λ u us. q us) (mark_reads m) (λ u. right) (λ u. has)
 
 -- ---- lists
@@ -137,47 +142,15 @@ after_mark_reads E m M q right has = then_reads E (IsMark m) (mark_at m) (λ u. 
 pub closed_text : {A : Type 0} (m : ℕ) → HasText (Closed {A = A} m)
 closed_text m = mapped_text (λ u. []) (IsMark m) (tt, Mark m ∷ [], mark_text m)
 
-pub closed_reads : {A : Type 0} (m : ℕ) → Reads Any (Closed {A = A} m) (closed_at m)
+pub closed_reads : {k : Own} {A : Type 0} (m : ℕ) → Reads k Any (Closed {A = A} m) (closed_at m)
 closed_reads m = mapped_reads Any (λ u. []) (IsMark m) (mark_at m) (mark_reads m)
 
 pub onto_text : {A : Type 0} (L : A → List Token → Type 0) (M : List A → List Token → Type 0) → HasText L → HasText M → HasText (Onto L M)
 onto_text L M (v, t, l) has = then_text L (λ v. Mapped (λ us. v ∷ us) M) v t l (mapped_text (λ us. v ∷ us) M has)
 
-pub onto_reads : {A : Type 0} (E : Token → Type 0) (L : A → List Token → Type 0) (r : List Token → Outcome Token Why A) (M : List A → List Token → Type 0)
-    (q : List Token → Outcome Token Why (List A)) → Reads Any L r → Reads E M q → HasText M
-    → Reads E (Onto L M) (λ ts. after (r ts) (λ v us. mapped (λ vs. v ∷ vs) (q us)))
+pub onto_reads : {k : Own} {A : Type 0} (E : Token → Type 0) (L : A → List Token → Type 0) (r : List Token → Outcome Token Why A) (M : List A → List Token → Type 0)
+    (q : List Token → Outcome Token Why (List A)) → Reads k Any L r → Reads k E M q → HasText M
+    → Reads k E (Onto L M) (λ ts. after (r ts) (λ v us. mapped (λ vs. v ∷ vs) (q us)))
 onto_reads E L r M q first second has =
     then_reads E L r (λ v. Mapped (λ us. v ∷ us) M) (λ v us. mapped (λ vs. v ∷ vs) (q us)) first
     (λ v. mapped_reads E (λ us. v ∷ us) M q second) (λ v. mapped_text (λ us. v ∷ us) M has)
-
--- ---- readers that differ in the reason alone
-
-abbrev pub blind : {S W A : Type 0} → Outcome S W A → Outcome S (Unit {0}) A
-blind (whole a u) = whole a u
-blind more = more
-blind (bad n w) = bad n tt
-
-module _ {S W A : Type 0} where
-  blind_whole : (o : Outcome S W A) (a : A) (u : List S) → blind o ≡ whole a u → o ≡ whole a u
-  blind_whole (whole b v) a u e = let ab : b ≡ a = cc in let uv : v ≡ u = cc in cc
-  blind_whole more a u e = absurd cc
-  blind_whole (bad n w) a u e = absurd cc
-
-  blind_more : (o : Outcome S W A) → blind o ≡ more → o ≡ more
-  blind_more (whole b v) e = absurd cc
-  blind_more more e = refl
-  blind_more (bad n w) e = absurd cc
-
-  blind_bad : (o : Outcome S W A) (n : ℕ) → blind o ≡ bad n tt → (w : W) × (o ≡ bad n w)
-  blind_bad (whole b v) n e = absurd cc
-  blind_bad more n e = absurd cc
-  blind_bad (bad k w) n e = let same : k ≡ n = cc in (w, ap (λ j. bad j w) same)
-
-pub right_blind : {S W A : Type 0} (V E : S → Type 0) (L : A → List S → Type 0) (r q : List S → Outcome S W A)
-    → ((s : List S) → blind (q s) ≡ blind (r s)) → Right V E L Plain r → Right V E L Plain q
-right_blind V E L r q same right = record {
-  sound = λ s a u vs h. right.sound s a u vs (blind_whole (r s) a u (sym (same s) ∙ ap blind h));
-  complete = λ a t u l f. blind_whole (q (t ++ u)) a u (same (t ++ u) ∙ ap blind (right.complete a t u l f));
-  goes_on = λ s vs h. right.goes_on s vs (blind_more (r s) (sym (same s) ∙ ap blind h));
-  faults = λ s n w vs h. let (x, e) = blind_bad (r s) n (sym (same s) ∙ ap blind h) in right.faults s n x vs e;
-}

@@ -122,10 +122,13 @@ IsBase (suc d) s ts = Branch (InRound (IsBase d)) (Branch (InCurly (IsBase d)) (
 unfoldable pub IsShapeTokens : Shape → List Token → Type 0
 IsShapeTokens s ts = IsProduct (IsBase most_brackets) s ts
 
--- why a token is at fault after some: it is the word `float`, and a base may stand there; or it is any other
+-- why a token is at fault after some: it is the word `float` where the word `int` may stand; or it is any other, or `float` elsewhere
+abbrev pub IsFloatFault : {A : Type 0} → (A → List Token → Type 0) → List Token → Token → Why → Type 0
+IsFloatFault L p t Float = (is_float t ≡ true) × Front L (p ++ Word (codes "int") ∷ [])
+IsFloatFault L p t BadText = is_float t ≡ true → Front L (p ++ Word (codes "int") ∷ []) → ⊥
+
 abbrev pub IsShapeFault : List Token → Token → Why → Type 0
-IsShapeFault p t Float = (is_float t ≡ true) × Front IsShapeTokens (p ++ Word (codes "int") ∷ [])
-IsShapeFault p t BadText = is_float t ≡ true → Front IsShapeTokens (p ++ Word (codes "int") ∷ []) → ⊥
+IsShapeFault p t w = IsFloatFault IsShapeTokens p t w
 
 -- ---- the reading
 

@@ -1,5 +1,5 @@
 -- The words of the grammars of texts: what one token is, and why one is at fault.
-use Rattle.std.specs.Prelude.{Option, Some, None, ℕ, Bool, true, false, ◌&&◌, nat_eq, if◌then◌else◌, List, [], ◌∷◌}
+use Rattle.std.specs.Prelude.{Option, Some, None, ◌≡◌, ℕ, Bool, true, false, ◌&&◌, nat_eq, if◌then◌else◌, List, [], ◌∷◌}
 use Rattle.readers.specs.Reader.{Outcome, after, mapped, Then, Mapped, One, one}
 use Rattle.bp_text_grammar.specs.Tokens.{Token, Word, Mark}
 
@@ -7,6 +7,10 @@ use Rattle.bp_text_grammar.specs.Tokens.{Token, Word, Mark}
 pub data Why : Type 0 where
   Float : Why
   BadText : Why
+
+-- in texts of values no token has a reason of its own
+abbrev pub IsValueFault : List Token → Token → Why → Type 0
+IsValueFault p t w = w ≡ BadText
 
 -- ---- the marks
 
