@@ -6,3 +6,4 @@ pub mod Words
 pub mod ValueStarts
 pub mod RightValues
 pub mod RightShapes
+pub mod LongestFronts

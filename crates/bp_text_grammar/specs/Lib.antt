@@ -2,3 +2,4 @@ pub mod Tokens
 pub mod Texts
 pub mod ValueTexts
 pub mod ShapeTexts
+pub mod ShapeFronts
