@@ -7,3 +7,5 @@ pub mod ValueStarts
 pub mod RightValues
 pub mod RightShapes
 pub mod LongestFronts
+pub mod Pieces
+pub mod PrintedValues

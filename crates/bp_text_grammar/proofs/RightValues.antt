@@ -127,11 +127,11 @@ mutual
   value_reads (fields fs) is =
       after_mark_reads Any curly_open (Mapped val.Parts (AreFieldTokens fs)) (λ us. mapped val.Parts (fields_at fs us))
       (mapped_reads Any val.Parts (AreFieldTokens fs) (fields_at fs) (fields_reads fs is)) (mapped_text val.Parts (AreFieldTokens fs) (fields_text fs is))
-  value_reads (sum cs) is = chosen_reads cs is.0 is.1 (λ place lt. case_reads cs is.1 place lt)
+  value_reads (sum cs) is = chosen_reads cs is.0 is.2 (λ place lt. case_reads cs is.2 place lt)
   value_reads (poly cs) is =
       after_mark_reads Any backtick (Then (One (case_of cs)) (λ place. Mapped (val.Case place) (AreCaseTokens cs place)))
       (λ us. after (one (case_of cs) BadText us) (λ place xs. mapped (val.Case place) (case_at cs place xs)))
-      (chosen_reads cs is.0 is.1 (λ place lt. case_reads cs is.1 place lt)) (chosen_text cs is.0 is.1)
+      (chosen_reads cs is.0 is.2 (λ place lt. case_reads cs is.2 place lt)) (chosen_text cs is.0 is.2)
   value_reads sexp is = mapped_reads Any val.Sexp (IsSexpTokens deepest_sexp) (sexp_at deepest_sexp) (sexp_reads 127)
 
   parts_reads : (fs : Parts) → ArePartsRead fs → Reads NoWord Any (ArePartTokens fs) (parts_at fs)

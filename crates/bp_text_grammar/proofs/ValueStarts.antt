@@ -7,14 +7,15 @@ use Rattle.bp_value.specs.declared.value.Value.TheVariants as val
 use Rattle.bp_value.specs.declared.value.Sexp.TheVariants as sx
 use Rattle.bp_value.specs.Limits.{deepest_sexp}
 use Rattle.bp_value.specs.Form.{Form, Parts, Cases, unit, bool, char, int, int32, int64, text, opt, listed, tuple, fields, sum, poly, sexp, end, part, end_cases, case}
+use Rattle.bp_value.specs.Names.{IsDistinct}
 use Rattle.bp_value.specs.Faults.{nodes, part_nodes, case_nodes, case_names, IsGood}
-use Rattle.bp_value.proofs.Good.{AreGood, good_root, good_node, good_opt, good_listed, good_tuple, good_fields, good_sum, good_poly, good_part, good_case, some_cases}
+use Rattle.bp_value.proofs.Good.{AreGood, good_root, good_node, good_opt, good_listed, good_tuple, good_fields, good_sum, good_poly, good_part, good_case, some_cases, distinct_names}
 use Rattle.bp_text_grammar.specs.Tokens.{Token, Word, Number, Text, Char, Mark}
 use Rattle.bp_text_grammar.specs.Texts.{round_open, round_close, comma, semicolon, equals, square_open, square_close, backtick, curly_open, curly_close, same, is_mark, word, IsMark, IsWord, Onto}
 use Rattle.bp_text_grammar.specs.ValueTexts.{bool_of, char_of, number, text_of, atom_of, case_named, case_of, Items, Label, Inside, IsSexpTokens, IsValueTokens, ArePartTokens, AreMorePartTokens, AreFieldTokens, AreMoreFieldTokens, AreCaseTokens, AreArgumentTokens}
 use Rattle.bp_text_grammar.proofs.Words.{HasText, same_refl, mark_text, mark_begins_not, word_same, word_text, map_begins, then_text, mapped_text, after_mark, closed_text, onto_text}
 
--- ---- which forms can be read: a variant has a case
+-- ---- which forms can be read: a variant has a case, and no two of its cases have one name
 
 abbrev pub case_count : Cases → ℕ
 case_count end_cases = zero
@@ -26,8 +27,8 @@ unfoldable mutual
   IsRead (listed f) = IsRead f
   IsRead (tuple fs) = ArePartsRead fs
   IsRead (fields fs) = ArePartsRead fs
-  IsRead (sum cs) = (0 < case_count cs) × AreCasesRead cs
-  IsRead (poly cs) = (0 < case_count cs) × AreCasesRead cs
+  IsRead (sum cs) = (0 < case_count cs) × IsDistinct (case_names cs) × AreCasesRead cs
+  IsRead (poly cs) = (0 < case_count cs) × IsDistinct (case_names cs) × AreCasesRead cs
   IsRead _ = Unit {0}
 
   pub ArePartsRead : Parts → Type 0
@@ -59,10 +60,10 @@ mutual
   read_node d (fields fs) good = read_parts_node (d + 1) fs (good_fields d fs good)
   read_node d (sum cs) good =
       let some : 0 < length (case_names cs) = some_cases d (sum cs) (good_node d (sum cs) good) tt in
-      (omega (arith, case_count-is cs), read_cases_node (d + 1) cs (good_sum d cs good))
+      (omega (arith, case_count-is cs), distinct_names d (sum cs) (good_node d (sum cs) good), read_cases_node (d + 1) cs (good_sum d cs good))
   read_node d (poly cs) good =
       let some : 0 < length (case_names cs) = some_cases d (poly cs) (good_node d (poly cs) good) tt in
-      (omega (arith, case_count-is cs), read_cases_node (d + 1) cs (good_poly d cs good))
+      (omega (arith, case_count-is cs), distinct_names d (poly cs) (good_node d (poly cs) good), read_cases_node (d + 1) cs (good_poly d cs good))
   read_node d sexp good = tt
 
   read_parts_node : (d : ℕ) (fs : Parts) → AreGood (part_nodes d fs) → ArePartsRead fs
@@ -188,8 +189,8 @@ mutual
   value_text (listed f) is = after_mark square_open (Mapped val.Items (Items (IsValueTokens f))) (mapped_text val.Items (Items (IsValueTokens f)) (items_text (IsValueTokens f)))
   value_text (tuple fs) is = after_mark round_open (Mapped val.Parts (ArePartTokens fs)) (mapped_text val.Parts (ArePartTokens fs) (parts_text fs is))
   value_text (fields fs) is = after_mark curly_open (Mapped val.Parts (AreFieldTokens fs)) (mapped_text val.Parts (AreFieldTokens fs) (fields_text fs is))
-  value_text (sum cs) is = chosen_text cs is.0 is.1
-  value_text (poly cs) is = after_mark backtick (Then (One (case_of cs)) (λ place. Mapped (val.Case place) (AreCaseTokens cs place))) (chosen_text cs is.0 is.1)
+  value_text (sum cs) is = chosen_text cs is.0 is.2
+  value_text (poly cs) is = after_mark backtick (Then (One (case_of cs)) (λ place. Mapped (val.Case place) (AreCaseTokens cs place))) (chosen_text cs is.0 is.2)
   value_text sexp is = mapped_text val.Sexp (IsSexpTokens deepest_sexp) (sexp_text 127)
 
   pub chosen_text : (cs : Cases) → 0 < case_count cs → AreCasesRead cs → HasText (Then (One (case_of cs)) (λ place. Mapped (val.Case place) (AreCaseTokens cs place)))

@@ -3,3 +3,5 @@ pub mod Texts
 pub mod ValueTexts
 pub mod ShapeTexts
 pub mod ShapeFronts
+pub mod Printed
+pub mod PrintedValues
