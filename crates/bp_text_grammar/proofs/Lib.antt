@@ -9,3 +9,6 @@ pub mod RightShapes
 pub mod LongestFronts
 pub mod Pieces
 pub mod PrintedValues
+pub mod ShapeLayers
+pub mod PrintedShapes
+pub mod PrintedGood

@@ -22,15 +22,16 @@ pub tokens_after_blank : (ps qs : List Piece) → tokens_of (after_blank ps ++ q
 tokens_after_blank ps qs = tokens_join (after_blank ps) qs ∙ ap (λ ts. ts ++ tokens_of qs) (tokens_blank ps)
 
 -- more values of a list are printed as they are read
-pub rest_printed : {A : Type 0} (sep close : ℕ) (L : A → List Token → Type 0) (w : A → List Piece) (F : A → Type 0) → ((a : A) → F a → L a (tokens_of (w a)))
-    → (vs : List A) → All F vs → Rest (is_mark sep) (is_mark close) L vs (tokens_of (more_pieces sep close w vs))
-rest_printed sep close L w F each [] all = (Mark close, mark_is_itself close, refl)
-rest_printed sep close L w F each (v ∷ vs) all = (
-  Mark sep,
+pub rest_printed : {A : Type 0} (piece : Piece) (sep close : ℕ) (L : A → List Token → Type 0) (w : A → List Piece) (F : A → Type 0) → piece.1 ≡ Mark sep
+    → ((a : A) → F a → L a (tokens_of (w a)))
+    → (vs : List A) → All F vs → Rest (is_mark sep) (is_mark close) L vs (tokens_of (more_pieces piece close w vs))
+rest_printed piece sep close L w F is each [] all = (Mark close, mark_is_itself close, refl)
+rest_printed piece sep close L w F is each (v ∷ vs) all = (
+  piece.1,
   tokens_of (w v),
-  tokens_of (more_pieces sep close w vs),
-  mark_is_itself sep,
-  ap (λ ts. Mark sep ∷ ts) (tokens_after_blank (w v) (more_pieces sep close w vs)),
+  tokens_of (more_pieces piece close w vs),
+  ap (λ t. is_mark sep t) is ∙ mark_is_itself sep,
+  ap (λ ts. piece.1 ∷ ts) (tokens_after_blank (w v) (more_pieces piece close w vs)),
   each v (All-head F v vs all),
-  rest_printed sep close L w F each vs (All-tail F v vs all),
+  rest_printed piece sep close L w F is each vs (All-tail F v vs all),
 )

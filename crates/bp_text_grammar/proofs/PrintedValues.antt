@@ -130,12 +130,12 @@ sexp_printed m (suc (suc d)) s (inr (ss, is, (le, all))) =
 
 -- the values of a list after its first bracket
 list_of_printed : {A : Type 0} (L : A → List Token → Type 0) (w : A → List Piece) (F : A → Type 0) → ((a : A) → F a → L a (tokens_of (w a)))
-    → (vs : List A) → All F vs → Items L vs (tokens_of (list_pieces semicolon square_close w vs))
+    → (vs : List A) → All F vs → Items L vs (tokens_of (list_pieces (tight (Mark semicolon)) square_close w vs))
 list_of_printed L w F each [] all = inl (closed square_close)
 list_of_printed L w F each (v ∷ vs) all =
-    inr (onto L (Rest (is_mark semicolon) (is_mark square_close) L) v vs _ (tokens_of (w v)) (tokens_of (more_pieces semicolon square_close w vs))
-    (tokens_join (w v) (more_pieces semicolon square_close w vs)) (each v (All-head F v vs all))
-    (rest_printed semicolon square_close L w F each vs (All-tail F v vs all)))
+    inr (onto L (Rest (is_mark semicolon) (is_mark square_close) L) v vs _ (tokens_of (w v)) (tokens_of (more_pieces (tight (Mark semicolon)) square_close w vs))
+    (tokens_join (w v) (more_pieces (tight (Mark semicolon)) square_close w vs)) (each v (All-head F v vs all))
+    (rest_printed (tight (Mark semicolon)) semicolon square_close L w F refl each vs (All-tail F v vs all)))
 
 -- a field, and what stands after it
 labelled_printed : (name : List ℕ) (M : List Value → List Token → Type 0) (vs : List Value) (ps qs : List Piece) → M vs (tokens_of (ps ++ qs))
@@ -167,7 +167,7 @@ mutual
       rw (same, out_present x) (inr (tt, Word (codes "some") ∷ [], tokens_of (value_pieces f x), ap (λ ts. Word (codes "some") ∷ ts) (tokens_blank (value_pieces f x)),
       word_text (codes "some"), (x, refl, value_printed m f x is fits)))
   value_printed m (listed f) v is (vs, same, (le, all)) =
-      rw (same, out_items vs) (marked square_open (Mapped val.Items (Items (IsValueTokens f))) (val.Items vs) _ (tokens_of (list_pieces semicolon square_close (value_pieces f) vs)) refl
+      rw (same, out_items vs) (marked square_open (Mapped val.Items (Items (IsValueTokens f))) (val.Items vs) _ (tokens_of (list_pieces (tight (Mark semicolon)) square_close (value_pieces f) vs)) refl
       (vs, refl, list_of_printed (IsValueTokens f) (value_pieces f) (Fits m f) (λ x fits. value_printed m f x is fits) vs all))
   value_printed m (tuple fs) v is (vs, same, fits) =
       rw (same, out_parts vs) (marked round_open (Mapped val.Parts (ArePartTokens fs)) (val.Parts vs) _ (tokens_of (part_pieces fs vs)) refl (vs, refl, parts_printed m fs vs is fits))

@@ -5,3 +5,4 @@ pub mod ShapeTexts
 pub mod ShapeFronts
 pub mod Printed
 pub mod PrintedValues
+pub mod PrintedShapes

@@ -23,12 +23,12 @@ tokens_of ps = map (λ p. p.1) ps
 
 -- ---- lists
 
--- more of a list after one: each after a separator and a blank; and the closing mark
-abbrev pub more_pieces : {A : Type 0} → ℕ → ℕ → (A → List Piece) → List A → List Piece
+-- more of a list after one: each after a separator, which may have a blank before it, and a blank; and the closing mark
+abbrev pub more_pieces : {A : Type 0} → Piece → ℕ → (A → List Piece) → List A → List Piece
 more_pieces sep close w [] = tight (Mark close) ∷ []
-more_pieces sep close w (v ∷ vs) = tight (Mark sep) ∷ after_blank (w v) ++ more_pieces sep close w vs
+more_pieces sep close w (v ∷ vs) = sep ∷ after_blank (w v) ++ more_pieces sep close w vs
 
-abbrev pub list_pieces : {A : Type 0} → ℕ → ℕ → (A → List Piece) → List A → List Piece
+abbrev pub list_pieces : {A : Type 0} → Piece → ℕ → (A → List Piece) → List A → List Piece
 list_pieces sep close w [] = tight (Mark close) ∷ []
 list_pieces sep close w (v ∷ vs) = w v ++ more_pieces sep close w vs
 

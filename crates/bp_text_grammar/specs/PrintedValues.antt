@@ -53,7 +53,7 @@ option_pieces w (layer.Present v) = tight (Word (codes "some")) ∷ after_blank 
 option_pieces w _ = []
 
 abbrev pub items_pieces : (Value → List Piece) → Value-F Value → List Piece
-items_pieces w (layer.Items vs) = tight (Mark square_open) ∷ list_pieces semicolon square_close w vs
+items_pieces w (layer.Items vs) = tight (Mark square_open) ∷ list_pieces (tight (Mark semicolon)) square_close w vs
 items_pieces w _ = []
 
 abbrev pub parts_pieces : (List Value → List Piece) → Value-F Value → List Piece

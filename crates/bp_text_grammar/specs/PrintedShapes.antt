@@ -1,0 +1,90 @@
+-- The printed text of a shape.
+use Rattle.std.specs.Prelude.{Option, Some, None, ℕ, Bool, true, false, if◌then◌else◌, List, [], ◌∷◌, ◌++◌, codes}
+use Rattle.bp_value.specs.declared.shape.Shape.{Shape, fold-Shape}
+use Rattle.bp_value.specs.declared.shape.Shape.TheOpen.{Shape-F, Case-F, Field-F, PolyCase-F}
+use Rattle.bp_value.specs.declared.shape.Shape.TheOpen as layer
+use Rattle.bp_text_grammar.specs.Tokens.{Token, Word, Mark}
+use Rattle.bp_text_grammar.specs.Texts.{round_open, round_close, star, colon, semicolon, square_open, square_close, backtick, curly_open, bar, curly_close}
+use Rattle.bp_text_grammar.specs.Printed.{Piece, tight, spaced, after_blank, tokens_of, list_pieces, bytes_of}
+
+-- whether a shape is a tuple, and its pieces without brackets round them
+abbrev pub Printed : Type 0
+Printed = Bool × List Piece
+
+-- as a part: a tuple stands in round brackets
+abbrev pub as_part : Printed → List Piece
+as_part p = if p.0 then tight (Mark round_open) ∷ p.1 ++ tight (Mark round_close) ∷ [] else p.1
+
+-- more factors after one, each after a star
+abbrev pub more_factors : List Printed → List Piece
+more_factors [] = []
+more_factors (p ∷ ps) = spaced (Mark star) ∷ after_blank (as_part p) ++ more_factors ps
+
+abbrev pub factors : List Printed → List Piece
+factors [] = []
+factors (p ∷ ps) = as_part p ++ more_factors ps
+
+-- what follows `of`, if anything does
+abbrev pub after_of : List Piece → List Piece
+after_of ps = spaced (Word (codes "of")) ∷ after_blank ps
+
+abbrev pub arguments : List Printed → List Piece
+arguments [] = []
+arguments (p ∷ ps) = after_of (factors (p ∷ ps))
+
+abbrev pub argument : Option Printed → List Piece
+argument None = []
+argument (Some p) = after_of p.1
+
+abbrev pub base : Token → Printed
+base t = (false, tight t ∷ [])
+
+-- the members between brackets; in a variant a bar has a blank on either side
+abbrev pub record_pieces : List (List Piece) → List Piece
+record_pieces fs = tight (Mark curly_open) ∷ list_pieces (tight (Mark semicolon)) curly_close (λ f. f) fs
+
+abbrev pub variant_pieces : List (List Piece) → List Piece
+variant_pieces cs = tight (Mark square_open) ∷ list_pieces (spaced (Mark bar)) square_close (λ c. c) cs
+
+-- ---- one layer of a shape, whose children are printed already
+
+abbrev pub shape_step : Shape-F Printed (List Piece) (List Piece) (List Piece) → Printed
+shape_step layer.Unit = base (Word (codes "unit"))
+shape_step layer.Bool = base (Word (codes "bool"))
+shape_step layer.Char = base (Word (codes "char"))
+shape_step layer.Int = base (Word (codes "int"))
+shape_step layer.Int32 = base (Word (codes "int32"))
+shape_step layer.Int64 = base (Word (codes "int64"))
+shape_step layer.Text = base (Word (codes "string"))
+shape_step (layer.Opt p) = (false, as_part p ++ spaced (Word (codes "option")) ∷ [])
+shape_step (layer.List p) = (false, as_part p ++ spaced (Word (codes "list")) ∷ [])
+shape_step (layer.Tuple ps) = (true, factors ps)
+shape_step (layer.Fields fs) = (false, record_pieces fs)
+shape_step (layer.Sum cs) = (false, variant_pieces cs)
+shape_step (layer.Poly cs) = (false, variant_pieces cs)
+shape_step layer.Sexp = base (Word (codes "sexp"))
+
+abbrev pub case_step : Case-F Printed (List Piece) (List Piece) (List Piece) → List Piece
+case_step c = tight (Word c.name) ∷ arguments c.args
+
+abbrev pub field_step : Field-F Printed (List Piece) (List Piece) (List Piece) → List Piece
+field_step f = tight (Word f.name) ∷ tight (Mark colon) ∷ after_blank f.shape.1
+
+abbrev pub poly_step : PolyCase-F Printed (List Piece) (List Piece) (List Piece) → List Piece
+poly_step c = tight (Mark backtick) ∷ tight (Word c.name) ∷ argument c.arg
+
+-- ---- all shapes
+
+unfoldable pub shape_printed : Shape → Printed
+shape_printed s = fold-Shape Printed (List Piece) (List Piece) (List Piece) shape_step case_step field_step poly_step s
+
+unfoldable pub shape_pieces : Shape → List Piece
+shape_pieces s = (shape_printed s).1
+
+-- the tokens of the printed text
+unfoldable pub shape_tokens : Shape → List Token
+shape_tokens s = tokens_of (shape_pieces s)
+
+-- its bytes: it has no text, no char and no number
+unfoldable pub shape_text_of : Shape → List ℕ
+shape_text_of s = bytes_of (λ t. []) (λ b. []) (λ n. []) (shape_pieces s)
