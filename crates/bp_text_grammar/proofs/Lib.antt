@@ -12,3 +12,7 @@ pub mod PrintedValues
 pub mod ShapeLayers
 pub mod PrintedShapes
 pub mod PrintedGood
+pub mod ReadFits
+pub mod Laid
+pub mod LaidValues
+pub mod RoundTrips

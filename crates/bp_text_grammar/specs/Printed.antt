@@ -1,7 +1,10 @@
 -- Tokens as they are printed: which of them have a blank before them, and their bytes.
-use Rattle.std.specs.Prelude.{ℕ, ℤ, Bool, true, false, if◌then◌else◌, List, [], ◌∷◌, ◌++◌, map}
+use Rattle.std.specs.Prelude.{◌≡◌, ℕ, ℤ, Bool, true, false, ◌||◌, nat_eq, if◌then◌else◌, List, [], ◌∷◌, ◌++◌, map}
 use Rattle.std.specs.List.{flat_map}
+use Rattle.bp_value.specs.Names.{IsShapeName}
+use Rattle.bp_value.specs.Fits.{InRange}
 use Rattle.bp_text_grammar.specs.Tokens.{Token, Word, Number, Text, Char, Mark}
+use Rattle.bp_text_grammar.specs.Texts.{round_open, round_close, star, comma, colon, semicolon, equals, square_open, square_close, backtick, curly_open, bar, curly_close}
 
 -- a token, and whether a blank stands before it
 abbrev pub Piece : Type 0
@@ -51,21 +54,41 @@ abbrev pub bytes_of : (List ℕ → List ℕ) → (ℕ → List ℕ) → (ℤ �
 bytes_of quoted_text quoted_char decimal_text ps =
     flat_map (λ p. blank_if p.0 ++ token_bytes quoted_text quoted_char decimal_text p.1) ps
 
--- ---- what keeps tokens apart
+-- ---- when each token is one of its own in the bytes
 
--- a word or a number goes on with the next token, unless that is a mark or has a blank before it
+-- the marks that are printed
+abbrev pub marks : List ℕ
+marks =
+    round_open ∷ round_close ∷ star ∷ comma ∷ colon ∷ semicolon ∷ equals ∷ square_open ∷ square_close ∷ backtick ∷ curly_open ∷ bar
+    ∷ curly_close ∷ []
+
+abbrev pub among : ℕ → List ℕ → Bool
+among m [] = false
+among m (n ∷ ns) = nat_eq m n || among m ns
+
+-- a token that has bytes
+abbrev pub IsWritten : Token → Type 0
+IsWritten (Word w) = IsShapeName w
+IsWritten (Number n) = InRange 63 n
+IsWritten (Text t) = Unit {0}
+IsWritten (Char b) = Unit {0}
+IsWritten (Mark m) = among m marks ≡ true
+IsWritten _ = ⊥
+
+-- a word or a number, which goes on with what may go on it
 abbrev pub IsRun : Token → Type 0
 IsRun (Word w) = Unit {0}
 IsRun (Number n) = Unit {0}
 IsRun _ = ⊥
 
-abbrev pub IsKept : Piece → Type 0
-IsKept (true, t) = Unit {0}
-IsKept (false, Mark b) = Unit {0}
-IsKept (false, _) = ⊥
+-- what goes on nothing: a mark, what has a blank before it, and the end
+abbrev pub IsApart : List Piece → Type 0
+IsApart [] = Unit {0}
+IsApart ((true, t) ∷ ps) = Unit {0}
+IsApart ((false, Mark m) ∷ ps) = Unit {0}
+IsApart _ = ⊥
 
--- each token is a token of its own in the bytes
-abbrev pub AreApart : List Piece → Type 0
-AreApart [] = Unit {0}
-AreApart (p ∷ []) = Unit {0}
-AreApart (p ∷ q ∷ ps) = (IsRun p.1 → IsKept q) × AreApart (q ∷ ps)
+-- each token has bytes, and the next does not go on it
+abbrev pub AreLaid : List Piece → Type 0
+AreLaid [] = Unit {0}
+AreLaid (p ∷ ps) = IsWritten p.1 × (IsRun p.1 → IsApart ps) × AreLaid ps

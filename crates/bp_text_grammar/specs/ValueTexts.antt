@@ -1,8 +1,8 @@
 -- Which tokens are a text of which value of a form. A relation by cases over the form, without position or state; and the
 -- reading of them, a total function of the form and the tokens.
-use Rattle.std.specs.Prelude.{Option, Some, None, ℕ, ℤ, zero, suc, pos, negsuc, ◌^◌, Bool, true, false, nat_lt, if◌then◌else◌, List, [], length, codes}
+use Rattle.std.specs.Prelude.{Option, Some, None, ◌≤◌, ℕ, ℤ, zero, suc, pos, negsuc, ◌^◌, Bool, true, false, nat_lt, if◌then◌else◌, List, [], length, codes}
 use Rattle.std.specs.Option.{option_map}
-use Rattle.readers.specs.Reader.{Outcome, whole, more, after, mapped, Then, Mapped, Done, One, one, Branch, branch, Rest, rests}
+use Rattle.readers.specs.Reader.{Outcome, Each, whole, more, after, mapped, Then, Mapped, Done, One, one, Branch, branch, Rest, rests}
 use Rattle.readers.specs.Until.{Until, until}
 use Rattle.bp_value.specs.declared.value.Value.{Value}
 use Rattle.bp_value.specs.declared.value.Value.TheVariants as val
@@ -123,6 +123,17 @@ unfoldable mutual
   pub AreArgumentTokens : Parts → List Value → List Token → Type 0
   AreArgumentTokens end vs ts = Done [] vs ts
   AreArgumentTokens (part name f fs) vs ts = Then (IsMark round_open) (λ u. Onto (IsValueTokens f) (AreMorePartTokens fs)) vs ts
+
+-- ---- what bounds a value that was read
+
+-- a text of at most m bytes, or a token that is no text
+abbrev pub IsShort : ℕ → Token → Type 0
+IsShort m (Text t) = length t ≤ m
+IsShort m _ = Unit {0}
+
+-- at most m tokens, and each text among them has at most m bytes
+abbrev pub AreShort : ℕ → List Token → Type 0
+AreShort m ts = (length ts ≤ m) × Each (IsShort m) ts
 
 -- ---- the reading
 
