@@ -16,3 +16,4 @@ pub mod ReadFits
 pub mod Laid
 pub mod LaidValues
 pub mod RoundTrips
+pub mod LaidShapes
