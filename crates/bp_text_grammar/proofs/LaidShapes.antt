@@ -20,7 +20,7 @@ use Rattle.bp_value.proofs.Good.{AreGood, good_root, good_node, good_opt, good_l
 use Rattle.bp_text_grammar.specs.Tokens.{Word, Mark}
 use Rattle.bp_text_grammar.specs.Texts.{round_open, round_close, star, colon, semicolon, square_open, square_close, backtick, curly_open, bar, curly_close}
 use Rattle.bp_text_grammar.specs.Printed.{Piece, tight, spaced, after_blank, list_pieces, IsApart, AreLaid}
-use Rattle.bp_text_grammar.specs.PrintedShapes.{Printed, as_part, more_factors, factors, after_of, arguments, argument as argument_pieces, record_pieces, variant_pieces, shape_printed, shape_pieces}
+use Rattle.bp_text_grammar.specs.PrintedShapes.{Printed, as_part, more_factors, factors, after_of, of_arguments, of_argument, record_pieces, variant_pieces, shape_printed, shape_pieces}
 use Rattle.bp_text_grammar.proofs.Laid.{laid_join, laid_blank, apart_after, laid_mark, laid_word, list_laid, plain_name}
 use Rattle.bp_text_grammar.proofs.ShapeLayers.{case_printed, field_printed, poly_printed, case_printed_is, field_printed_is, poly_printed_is, layer_printed, printed_Opt, printed_List, printed_Tuple, printed_Fields, printed_Sum, printed_Poly, by_layers}
 
@@ -138,17 +138,17 @@ field_is_laid n e d is good =
 case_is_laid : (n : List ℕ) (es : List LaidShape) → CaseIsLaid (record { name = n; args = map (λ e. e.0) es })
 case_is_laid n es d is good = subst AreLaid (sym (case_printed_is (record { name = n; args = map (λ e. e.0) es }))) (some es good)
   where
-    some : (es : List LaidShape) → AreGood (part_nodes d (parts (map form_of (map (λ e. e.0) es)))) → AreLaid (tight (Word n) ∷ arguments (map shape_printed (map (λ e. e.0) es)))
+    some : (es : List LaidShape) → AreGood (part_nodes d (parts (map form_of (map (λ e. e.0) es)))) → AreLaid (tight (Word n) ∷ of_arguments (map shape_printed (map (λ e. e.0) es)))
     some [] good = laid_word false n [] is tt tt
     some (e ∷ es) good =
-        laid_word false n (arguments (map shape_printed (map (λ e. e.0) (e ∷ es)))) is tt
+        laid_word false n (of_arguments (map shape_printed (map (λ e. e.0) (e ∷ es)))) is tt
         (of_laid (factors (map shape_printed (map (λ e. e.0) (e ∷ es)))) (factors_laid (map shape_printed (map (λ e. e.0) (e ∷ es))) (parts_all d (e ∷ es) good)))
 
 poly_is_laid : (n : List ℕ) (o : Option LaidShape) → PolyIsLaid (record { name = n; arg = option_map (λ e. e.0) o })
 poly_is_laid n o d is good = subst AreLaid (sym (poly_printed_is (record { name = n; arg = option_map (λ e. e.0) o }))) (some o good)
   where
     some : (o : Option LaidShape) → AreGood (part_nodes d (argument (option_map form_of (option_map (λ e. e.0) o))))
-        → AreLaid (tight (Mark backtick) ∷ tight (Word n) ∷ argument_pieces (option_map shape_printed (option_map (λ e. e.0) o)))
+        → AreLaid (tight (Mark backtick) ∷ tight (Word n) ∷ of_argument (option_map shape_printed (option_map (λ e. e.0) o)))
     some None good = laid_mark false backtick (tight (Word n) ∷ []) refl (laid_word false n [] is tt tt)
     some (Some e) good =
         laid_mark false backtick (tight (Word n) ∷ after_of (shape_printed e.0).1) refl

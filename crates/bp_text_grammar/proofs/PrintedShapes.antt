@@ -20,7 +20,7 @@ use Rattle.bp_text_grammar.specs.Tokens.{Token, Word, Mark}
 use Rattle.bp_text_grammar.specs.Texts.{round_open, round_close, star, colon, backtick, is_word}
 use Rattle.bp_text_grammar.specs.ShapeTexts.{most_posts, name_of, base_of, is_star, is_post, is_of, posted, no_arguments, IsPart, AreFactors, IsProduct, IsField, IsSumCase, IsPolyCase, IsBase}
 use Rattle.bp_text_grammar.specs.Printed.{Piece, tight, spaced, after_blank, tokens_of}
-use Rattle.bp_text_grammar.specs.PrintedShapes.{as_part, more_factors, factors, after_of, arguments, argument as argument_pieces, shape_printed}
+use Rattle.bp_text_grammar.specs.PrintedShapes.{as_part, more_factors, factors, after_of, of_arguments, of_argument, shape_printed}
 use Rattle.bp_text_grammar.proofs.Words.{mark_text}
 use Rattle.bp_text_grammar.proofs.Pieces.{tokens_join, tokens_blank, tokens_after_blank}
 use Rattle.bp_text_grammar.proofs.ShapeLayers.{case_printed, field_printed, poly_printed, case_printed_is, field_printed_is, poly_printed_is, printed_Opt, printed_List, printed_Tuple}
@@ -224,10 +224,10 @@ of_printed L a ps l = (Word (codes "of"), tokens_of ps, refl, ap (λ ts. Word (c
 pub case_is_printed : (n : List ℕ) (es : List Printable) → CaseIsPrinted (record { name = n; args = map (λ e. e.0) es })
 case_is_printed n es d k is good le =
     subst (λ ps. IsSumCase (IsBase k) (record { name = n; args = map (λ e. e.0) es }) (tokens_of ps)) (sym (case_printed_is (record { name = n; args = map (λ e. e.0) es })))
-    (n, Word n ∷ [], tokens_of (arguments (map shape_printed (map (λ e. e.0) es))), refl, name_printed n is, some es good)
+    (n, Word n ∷ [], tokens_of (of_arguments (map shape_printed (map (λ e. e.0) es))), refl, name_printed n is, some es good)
   where
     some : (es : List Printable) → AreGood (part_nodes d (parts (map form_of (map (λ e. e.0) es))))
-        → Mapped {B = Case} (λ o. record { name = n; args = no_arguments o }) (Maybe is_of (AreFactors (IsBase k))) (record { name = n; args = map (λ e. e.0) es }) (tokens_of (arguments (map shape_printed (map (λ e. e.0) es))))
+        → Mapped {B = Case} (λ o. record { name = n; args = no_arguments o }) (Maybe is_of (AreFactors (IsBase k))) (record { name = n; args = map (λ e. e.0) es }) (tokens_of (of_arguments (map shape_printed (map (λ e. e.0) es))))
     some [] good = (None, refl, refl)
     some (e ∷ es) good =
         (Some (map (λ e. e.0) (e ∷ es)), refl, of_printed (AreFactors (IsBase k)) (map (λ e. e.0) (e ∷ es)) (factors (map shape_printed (map (λ e. e.0) (e ∷ es)))) (factors_printed d k e es good le))
@@ -237,14 +237,14 @@ poly_is_printed n o d k is good le =
     subst (λ ps. IsPolyCase (IsBase k) (record { name = n; arg = option_map (λ e. e.0) o }) (tokens_of ps)) (sym (poly_printed_is (record { name = n; arg = option_map (λ e. e.0) o }))) (
       tt,
       Mark backtick ∷ [],
-      Word n ∷ tokens_of (argument_pieces (option_map shape_printed (option_map (λ e. e.0) o))),
+      Word n ∷ tokens_of (of_argument (option_map shape_printed (option_map (λ e. e.0) o))),
       refl,
       mark_text backtick,
-      (n, Word n ∷ [], tokens_of (argument_pieces (option_map shape_printed (option_map (λ e. e.0) o))), refl, name_printed n is, some o good),
+      (n, Word n ∷ [], tokens_of (of_argument (option_map shape_printed (option_map (λ e. e.0) o))), refl, name_printed n is, some o good),
     )
   where
     some : (o : Option Printable) → AreGood (part_nodes d (argument (option_map form_of (option_map (λ e. e.0) o))))
-        → Mapped {B = PolyCase} (λ o. record { name = n; arg = o }) (Maybe is_of (IsProduct (IsBase k))) (record { name = n; arg = option_map (λ e. e.0) o }) (tokens_of (argument_pieces (option_map shape_printed (option_map (λ e. e.0) o))))
+        → Mapped {B = PolyCase} (λ o. record { name = n; arg = o }) (Maybe is_of (IsProduct (IsBase k))) (record { name = n; arg = option_map (λ e. e.0) o }) (tokens_of (of_argument (option_map shape_printed (option_map (λ e. e.0) o))))
     some None good = (None, refl, refl)
     some (Some e) good =
         (Some e.0, refl, of_printed (IsProduct (IsBase k)) e.0 (shape_printed e.0).1 (e.1 d k (good_part d [] (form_of e.0) (argument None) good).0 le).1)

@@ -23,9 +23,9 @@ use Rattle.bp_value.proofs.Fitted.{range_is}
 use Rattle.bp_value.proofs.Layers.{out_absent, out_bool, out_char, out_num, out_text, out_sexp, out_present, out_items, out_parts, out_case}
 use Rattle.bp_text_grammar.specs.Tokens.{Token, Word, Number, Text, Char, Mark}
 use Rattle.bp_text_grammar.specs.Texts.{round_open, round_close, comma, semicolon, equals, square_open, square_close, backtick, curly_open, curly_close, same, is_mark, IsMark, Closed, Onto}
-use Rattle.bp_text_grammar.specs.ValueTexts.{in_range, number, case_named, case_of, Items, Label, Inside, IsSexpTokens, IsValueTokens, ArePartTokens, AreMorePartTokens, AreFieldTokens, AreMoreFieldTokens, AreCaseTokens, AreArgumentTokens}
+use Rattle.bp_text_grammar.specs.ValueTexts.{in_range, number_of, case_named, case_of, Items, Label, Inside, IsSexpTokens, IsValueTokens, ArePartTokens, AreMorePartTokens, AreFieldTokens, AreMoreFieldTokens, AreCaseTokens, AreArgumentTokens}
 use Rattle.bp_text_grammar.specs.Printed.{Piece, tight, after_blank, tokens_of, more_pieces, list_pieces}
-use Rattle.bp_text_grammar.specs.PrintedValues.{more_items, all_items, sexp_step, sexp_pieces, name_at, labelled, value_pieces, part_pieces, more_part_pieces, field_pieces, more_field_pieces, argument_pieces_at, argument_pieces, value_tokens}
+use Rattle.bp_text_grammar.specs.PrintedValues.{more_items, all_items, print_sexp_step, sexp_pieces, name_at, labelled, value_pieces, part_pieces, more_part_pieces, field_pieces, more_field_pieces, argument_pieces_at, argument_pieces, value_tokens}
 use Rattle.bp_text_grammar.proofs.Words.{same_is, mark_text, word_text, word_same}
 use Rattle.bp_text_grammar.proofs.ValueStarts.{IsRead, ArePartsRead, AreCasesRead, case_count, good_read, first_named}
 use Rattle.bp_text_grammar.proofs.Pieces.{tokens_join, tokens_blank, tokens_after_blank, rest_printed}
@@ -49,7 +49,7 @@ within : (bits : ℕ) (n : ℤ) → InRange bits n → in_range bits n ≡ true
 within bits (pos k) x = let lt : mag (pos k) < 2 ^ bits = (range_is bits (pos k)).0 x in let le : k < 2 ^ bits = omega (arith, ints) in grind arith
 within bits (negsuc k) x = let lt : mag (negsuc k) < 2 ^ bits = (range_is bits (negsuc k)).0 x in let le : k < 2 ^ bits = omega (arith, ints) in grind arith
 
-number_printed : (bits : ℕ) (n : ℤ) → InRange bits n → One (number bits) (val.Num n) (Number n ∷ [])
+number_printed : (bits : ℕ) (n : ℤ) → InRange bits n → One (number_of bits) (val.Num n) (Number n ∷ [])
 number_printed bits n x = (Number n, refl, pick_true (in_range bits n) (Some (val.Num n)) None (within bits n x))
 
 -- ---- names of cases
@@ -84,11 +84,11 @@ found (case name fs cs) (suc place) distinct lt =
 
 pub sexp_pieces-Atom : (t : List ℕ) → sexp_pieces (sx.Atom t) ≡ tight (Text t) ∷ []
 unfolding sexp_pieces
-sexp_pieces-Atom t = ap sexp_pieces (sym (sx.rolls-Atom t)) ∙ fold-roll-Sexp (List Piece) sexp_step (sexp_layer.Atom t)
+sexp_pieces-Atom t = ap sexp_pieces (sym (sx.rolls-Atom t)) ∙ fold-roll-Sexp (List Piece) print_sexp_step (sexp_layer.Atom t)
 
 pub sexp_pieces-List : (ss : List Sexp) → sexp_pieces (sx.List ss) ≡ tight (Mark round_open) ∷ all_items (map sexp_pieces ss)
 unfolding sexp_pieces
-sexp_pieces-List ss = ap sexp_pieces (sym (sx.rolls-List ss)) ∙ fold-roll-Sexp (List Piece) sexp_step (sexp_layer.List ss)
+sexp_pieces-List ss = ap sexp_pieces (sym (sx.rolls-List ss)) ∙ fold-roll-Sexp (List Piece) print_sexp_step (sexp_layer.List ss)
 
 module _ (L : Sexp → List Token → Type 0) (F : Sexp → Type 0) (each : (s : Sexp) → F s → L s (tokens_of (sexp_pieces s))) where
   more_printed : (ss : List Sexp) → All F ss → Until (is_mark round_close) L ss (tokens_of (more_items (map sexp_pieces ss)))

@@ -17,7 +17,7 @@ use Rattle.bp_value.specs.Fits.{IsMade, InRange, Anything, FitsSexp, Fits, FitPa
 use Rattle.bp_value.proofs.Fitted.{range_is}
 use Rattle.bp_text_grammar.specs.Tokens.{Token, Number, Text, Char}
 use Rattle.bp_text_grammar.specs.Texts.{round_close, semicolon, square_close, is_mark, is_word}
-use Rattle.bp_text_grammar.specs.ValueTexts.{bool_of, char_of, in_range, number, text_of, Items, IsSexpTokens, IsValueTokens, ArePartTokens, AreMorePartTokens, AreFieldTokens, AreMoreFieldTokens, AreCaseTokens, AreArgumentTokens, IsShort, AreShort}
+use Rattle.bp_text_grammar.specs.ValueTexts.{bool_of, char_value_of, in_range, number_of, text_of, Items, IsSexpTokens, IsValueTokens, ArePartTokens, AreMorePartTokens, AreFieldTokens, AreMoreFieldTokens, AreCaseTokens, AreArgumentTokens, IsShort, AreShort}
 use Rattle.bp_text_grammar.proofs.Words.{when_is}
 use Rattle.bp_text_grammar.proofs.ValueStarts.{sexp_begins}
 
@@ -45,7 +45,7 @@ module _ (m : ℕ) where
       same : ◌≡◌ {A = Option Value} (Some (val.Bool true)) (Some v) → v ≡ val.Bool true
       same h = cc
 
-  char_fits : (v : Value) (t : Token) → char_of t ≡ Some v → IsMade val.Char Anything v
+  char_fits : (v : Value) (t : Token) → char_value_of t ≡ Some v → IsMade val.Char Anything v
   char_fits v (Char b) e = (b, cc, tt)
   char_fits v _ e = absurd cc
 
@@ -53,7 +53,7 @@ module _ (m : ℕ) where
   ranged bits (pos k) e = (range_is bits (pos k)).1 (let lt : k < 2 ^ bits = grind arith in omega (arith, ints))
   ranged bits (negsuc k) e = (range_is bits (negsuc k)).1 (let lt : k < 2 ^ bits = grind arith in omega (arith, ints))
 
-  number_fits : (bits : ℕ) (v : Value) (t : Token) → number bits t ≡ Some v → IsMade val.Num (InRange bits) v
+  number_fits : (bits : ℕ) (v : Value) (t : Token) → number_of bits t ≡ Some v → IsMade val.Num (InRange bits) v
   number_fits bits v (Number n) e = let (within, same) = when_is (in_range bits n) (val.Num n) v e in (n, same, ranged bits n within)
   number_fits bits v _ e = absurd cc
 

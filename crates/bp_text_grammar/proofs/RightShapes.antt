@@ -1,6 +1,7 @@
 -- The reading of shapes is right: it gives just the shapes that have texts, and refuses at the first token at fault.
 use Rattle.std.proofs.Common.{◌≡◌, refl, sym, ap, ◌∙◌, Option, Some, None, Bool, true, false, not, ◌||◌, ℕ, zero, suc, nat_eq, List, [], ◌∷◌, ◌++◌, length, codes, ◌⊎◌, inl, inr, arith}
-use Rattle.readers.specs.Reader.{Outcome, after, mapped, Any, Follows, Is, IsNot, Right, Then, Mapped, One, one, leaf, Branch, branch, Run, run, Rest, rests, Others, Maybe, maybe}
+use Rattle.readers.specs.Reader.{Outcome, after, mapped, Any, Never, Ended, Follows, Is, IsNot, Right, Then, Mapped, One, one, leaf, Branch, branch, Run, run, Rest, rests, Others, Maybe, maybe}
+use Rattle.readers.proofs.Readers.{right_same}
 use Rattle.readers.proofs.Leaves.{is_or, not_both, pick_true, pick_false, plain_one, then_begins, branch_begins}
 use Rattle.readers.proofs.Separators.{others_meet}
 use Rattle.bp_value.specs.declared.shape.Shape.{Shape}
@@ -9,9 +10,9 @@ use Rattle.bp_value.specs.declared.shape.Field.{Field}
 use Rattle.bp_value.specs.declared.shape.PolyCase.{PolyCase}
 use Rattle.bp_text_grammar.specs.Tokens.{Token, Word, Mark}
 use Rattle.bp_text_grammar.specs.Texts.{Why, Float, BadText, round_open, round_close, star, colon, semicolon, square_open, square_close, backtick, curly_open, bar, curly_close, is_mark, IsMark, mark_at}
-use Rattle.bp_text_grammar.specs.ShapeTexts.{most_brackets, most_posts, name_of, base_of, is_float, is_star, is_post, is_of, ends_shape, ends_case, posted, tupled, no_arguments, IsPart, AreFactors, IsProduct, IsField, IsSumCase, IsPolyCase, AreSome, InRound, InCurly, InSquare, IsBase, IsShapeTokens, IsShapeFault, base_why, base_word_at, part_at, more_factors_at, factors_at, product_at, field_at, sum_case_at, poly_case_at, some_at, round_at, curly_at, square_at, base_at, shape_at}
+use Rattle.bp_text_grammar.specs.ShapeTexts.{most_brackets, most_posts, name_of, base_of, is_float, is_star, is_post, is_of, ends_shape, ends_case, posted, tupled, no_arguments, IsPart, AreFactors, IsProduct, IsField, IsSumCase, IsPolyCase, AreSome, InRound, InCurly, InSquare, IsBase, IsShapeTokens, IsFloatFault, IsShapeFault, base_why, base_word_at, part_at, more_factors_at, factors_at, product_at, field_at, sum_case_at, poly_case_at, some_at, round_at, curly_at, square_at, base_at, shape_at, whole_shape_at}
 use Rattle.bp_text_grammar.proofs.Twins.{FloatWord, is_own, int_word, leaf_twins}
-use Rattle.bp_text_grammar.proofs.Told.{Reads, one_reads, mapped_reads, meeting_reads, branch_reads, run_reads, rest_reads, others_reads, maybe_reads, right_float}
+use Rattle.bp_text_grammar.proofs.Told.{Reads, one_reads, mapped_reads, meeting_reads, branch_reads, run_reads, rest_reads, others_reads, maybe_reads, right_float, ended_reads, ended_front, front_ended}
 use Rattle.bp_text_grammar.proofs.Words.{HasText, when_is, mark_is, mark_text, mark_reads, mark_begins, mark_begins_not, marks_apart, words_is, float_blind, mark_blind, map_begins, then_reads, then_text, mapped_text, after_mark, after_mark_reads, onto_text}
 use Rattle.bp_text_grammar.proofs.ValueStarts.{leaf_begins}
 use Rattle.bp_text_grammar.proofs.Blind.{blind, right_blind}
@@ -290,3 +291,13 @@ shape_reads = product_reads (IsBase most_brackets) (base_at most_brackets) (base
 -- the reading is right, where nothing follows or a token that goes on no shape; and a word `float` has its own reason
 pub right_shape : Right Any (Is ends_shape) IsShapeTokens IsShapeFault shape_at
 right_shape = right_float (Is ends_shape) IsShapeTokens shape_at shape_reads
+
+-- and of a text of nothing but a shape
+pub right_whole_shape : Right Any Never (Ended IsShapeTokens) IsShapeFault whole_shape_at
+right_whole_shape =
+    right_same Any Never (Ended IsShapeTokens) (Ended IsShapeTokens) (IsFloatFault (Ended IsShapeTokens)) IsShapeFault whole_shape_at (λ s ts l. l) (λ s ts l. l) why
+    (right_float Never (Ended IsShapeTokens) whole_shape_at (ended_reads (Is ends_shape) IsShapeTokens shape_at shape_reads))
+  where
+    why : (p : List Token) (t : Token) (w : Why) → IsFloatFault (Ended IsShapeTokens) p t w → IsShapeFault p t w
+    why p t Float (own, front) = (own, ended_front IsShapeTokens (p ++ int_word ∷ []) front)
+    why p t BadText none = λ own front. none own (front_ended IsShapeTokens (p ++ int_word ∷ []) front)

@@ -1,6 +1,6 @@
 -- The reading of values is right: it gives just the values that have texts, and refuses at the first token at fault.
 use Rattle.std.proofs.Common.{◌≡◌, refl, true, ℕ, pos, zero, suc, ◌<◌, List, [], ◌∷◌, ◌++◌, length, codes, inl, inr, arith}
-use Rattle.readers.specs.Reader.{Outcome, after, mapped, Any, Is, IsNot, Right, Then, Mapped, One, one, Rest, rests}
+use Rattle.readers.specs.Reader.{Outcome, after, mapped, Any, Never, Ended, Is, IsNot, Right, Then, Mapped, One, one, Rest, rests}
 use Rattle.readers.proofs.Readers.{follows-any}
 use Rattle.readers.proofs.Leaves.{then_begins, begins_wider}
 use Rattle.bp_value.specs.declared.value.Value.TheVariants as val
@@ -9,10 +9,10 @@ use Rattle.bp_value.specs.Limits.{deepest_sexp}
 use Rattle.bp_value.specs.Form.{Form, Parts, Cases, unit, bool, char, int, int32, int64, text, opt, listed, tuple, fields, sum, poly, sexp, end, part, end_cases, case}
 use Rattle.bp_value.specs.Faults.{IsGood}
 use Rattle.bp_text_grammar.specs.Tokens.{Token, Word, Number, Text, Char, Mark}
-use Rattle.bp_text_grammar.specs.Texts.{Why, BadText, IsValueFault, round_open, round_close, comma, semicolon, equals, square_open, square_close, backtick, curly_open, curly_close, is_mark, is_word, word, IsMark, mark_at, IsWord, word_at, Closed, closed_at, Onto, onto_at}
-use Rattle.bp_text_grammar.specs.ValueTexts.{bool_of, char_of, number, text_of, atom_of, case_of, Items, Label, Inside, IsSexpTokens, IsValueTokens, ArePartTokens, AreMorePartTokens, AreFieldTokens, AreMoreFieldTokens, AreCaseTokens, AreArgumentTokens, items_at, label_at, inside_at, sexp_at, value_at, parts_at, more_parts_at, fields_at, more_fields_at, case_at, arguments_at}
+use Rattle.bp_text_grammar.specs.Texts.{Why, BadText, IsValueFault, round_open, round_close, comma, semicolon, equals, square_open, square_close, backtick, curly_open, curly_close, is_mark, is_word, word_for, IsMark, mark_at, IsWord, word_at, Closed, closed_at, Onto, onto_at}
+use Rattle.bp_text_grammar.specs.ValueTexts.{bool_of, char_value_of, number_of, text_of, atom_of, case_of, Items, Label, Inside, IsSexpTokens, IsValueTokens, ArePartTokens, AreMorePartTokens, AreFieldTokens, AreMoreFieldTokens, AreCaseTokens, AreArgumentTokens, items_at, label_at, inside_at, sexp_at, value_at, parts_at, more_parts_at, fields_at, more_fields_at, case_at, arguments_at, whole_value_at}
 use Rattle.bp_text_grammar.proofs.Twins.{NoWord}
-use Rattle.bp_text_grammar.proofs.Told.{Reads, one_reads, done_reads, mapped_reads, meeting_reads, branch_reads, rest_reads, until_reads, right_common}
+use Rattle.bp_text_grammar.proofs.Told.{Reads, one_reads, done_reads, mapped_reads, meeting_reads, branch_reads, rest_reads, until_reads, right_common, ended_reads}
 use Rattle.bp_text_grammar.proofs.Words.{HasText, mark_text, mark_reads, mark_begins, none_blind, marks_apart, word_same, word_reads, word_begins, word_begins_not, map_begins, then_reads, after_mark_reads, mapped_text, closed_reads, onto_text, onto_reads}
 use Rattle.bp_text_grammar.proofs.ValueStarts.{IsRead, ArePartsRead, AreCasesRead, case_count, good_read, some_named, case_within, leaf_begins, after_label, value_begins, sexp_begins, inside_text, items_text, value_text, chosen_text, parts_text, more_parts_text, fields_text, more_fields_text, case_text}
 
@@ -101,14 +101,14 @@ mutual
       (mapped_reads Any (λ x. val.Unit) (IsMark round_close) (mark_at round_close) (mark_reads round_close))
       (mapped_text (λ x. val.Unit) (IsMark round_close) (tt, Mark round_close ∷ [], mark_text round_close))
   value_reads bool is = one_reads bool_of (Word (codes "true")) (val.Bool true) refl (λ b own none. absurd cc)
-  value_reads char is = one_reads char_of (Char 0) (val.Char 0) refl (λ b own none. absurd cc)
-  value_reads int is = one_reads (number 62) (Number (pos 0)) (val.Num (pos 0)) refl (λ b own none. absurd cc)
-  value_reads int32 is = one_reads (number 31) (Number (pos 0)) (val.Num (pos 0)) refl (λ b own none. absurd cc)
-  value_reads int64 is = one_reads (number 63) (Number (pos 0)) (val.Num (pos 0)) refl (λ b own none. absurd cc)
+  value_reads char is = one_reads char_value_of (Char 0) (val.Char 0) refl (λ b own none. absurd cc)
+  value_reads int is = one_reads (number_of 62) (Number (pos 0)) (val.Num (pos 0)) refl (λ b own none. absurd cc)
+  value_reads int32 is = one_reads (number_of 31) (Number (pos 0)) (val.Num (pos 0)) refl (λ b own none. absurd cc)
+  value_reads int64 is = one_reads (number_of 63) (Number (pos 0)) (val.Num (pos 0)) refl (λ b own none. absurd cc)
   value_reads text is = one_reads text_of (Text []) (val.Text []) refl (λ b own none. absurd cc)
   value_reads (opt f) is =
-      branch_reads Any (is_word (codes "none")) (One (word (codes "none") val.Absent)) (Then (IsWord (codes "some")) (λ u. Mapped val.Present (IsValueTokens f)))
-      (one (word (codes "none") val.Absent) BadText) (λ us. after (word_at (codes "some") us) (λ u xs. mapped val.Present (value_at f xs))) (none_blind (is_word (codes "none")))
+      branch_reads Any (is_word (codes "none")) (One (word_for (codes "none") val.Absent)) (Then (IsWord (codes "some")) (λ u. Mapped val.Present (IsValueTokens f)))
+      (one (word_for (codes "none") val.Absent) BadText) (λ us. after (word_at (codes "some") us) (λ u xs. mapped val.Present (value_at f xs))) (none_blind (is_word (codes "none")))
       (word_reads (codes "none") val.Absent)
       (then_reads Any (IsWord (codes "some")) (word_at (codes "some")) (λ u. Mapped val.Present (IsValueTokens f)) (λ u xs. mapped val.Present (value_at f xs))
       (word_reads (codes "some") tt) (λ u. mapped_reads Any val.Present (IsValueTokens f) (value_at f) (value_reads f is))
@@ -173,3 +173,8 @@ mutual
 -- for each good form the reading is right, and has one reason
 pub right_value : (f : Form) → IsGood f → Right Any Any (IsValueTokens f) IsValueFault (value_at f)
 right_value f good = right_common Any (IsValueTokens f) (value_at f) (value_reads f (good_read f good))
+
+-- and of a text of nothing but a value
+pub right_whole_value : (f : Form) → IsGood f → Right Any Never (Ended (IsValueTokens f)) IsValueFault (whole_value_at f)
+right_whole_value f good =
+    right_common Never (Ended (IsValueTokens f)) (whole_value_at f) (ended_reads Any (IsValueTokens f) (value_at f) (value_reads f (good_read f good)))

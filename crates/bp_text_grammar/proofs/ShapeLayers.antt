@@ -13,35 +13,35 @@ use Rattle.bp_value.specs.declared.shape.PolyCase.{PolyCase, fold_out-PolyCase}
 use Rattle.bp_text_grammar.specs.Tokens.{Word, Mark}
 use Rattle.bp_text_grammar.specs.Texts.{colon, backtick}
 use Rattle.bp_text_grammar.specs.Printed.{Piece, tight, spaced, after_blank}
-use Rattle.bp_text_grammar.specs.PrintedShapes.{Printed, as_part, factors, arguments, argument, record_pieces, variant_pieces, shape_step, case_step, field_step, poly_step, shape_printed}
+use Rattle.bp_text_grammar.specs.PrintedShapes.{Printed, as_part, factors, of_arguments, of_argument, record_pieces, variant_pieces, print_shape_step, print_case_step, print_field_step, print_poly_step, shape_printed}
 
 -- ---- members
 
 pub case_printed : Case → List Piece
-case_printed c = fold-Case Printed (List Piece) (List Piece) (List Piece) shape_step case_step field_step poly_step c
+case_printed c = fold-Case Printed (List Piece) (List Piece) (List Piece) print_shape_step print_case_step print_field_step print_poly_step c
 
 pub field_printed : Field → List Piece
-field_printed f = fold-Field Printed (List Piece) (List Piece) (List Piece) shape_step case_step field_step poly_step f
+field_printed f = fold-Field Printed (List Piece) (List Piece) (List Piece) print_shape_step print_case_step print_field_step print_poly_step f
 
 pub poly_printed : PolyCase → List Piece
-poly_printed c = fold-PolyCase Printed (List Piece) (List Piece) (List Piece) shape_step case_step field_step poly_step c
+poly_printed c = fold-PolyCase Printed (List Piece) (List Piece) (List Piece) print_shape_step print_case_step print_field_step print_poly_step c
 
-pub case_printed_is : (c : Case) → case_printed c ≡ tight (Word c.name) ∷ arguments (map shape_printed c.args)
+pub case_printed_is : (c : Case) → case_printed c ≡ tight (Word c.name) ∷ of_arguments (map shape_printed c.args)
 unfolding shape_printed case_printed
-case_printed_is c = fold_out-Case Printed (List Piece) (List Piece) (List Piece) shape_step case_step field_step poly_step c
+case_printed_is c = fold_out-Case Printed (List Piece) (List Piece) (List Piece) print_shape_step print_case_step print_field_step print_poly_step c
 
 pub field_printed_is : (f : Field) → field_printed f ≡ tight (Word f.name) ∷ tight (Mark colon) ∷ after_blank (shape_printed f.shape).1
 unfolding shape_printed field_printed
-field_printed_is f = fold_out-Field Printed (List Piece) (List Piece) (List Piece) shape_step case_step field_step poly_step f
+field_printed_is f = fold_out-Field Printed (List Piece) (List Piece) (List Piece) print_shape_step print_case_step print_field_step print_poly_step f
 
-pub poly_printed_is : (c : PolyCase) → poly_printed c ≡ tight (Mark backtick) ∷ tight (Word c.name) ∷ argument (option_map shape_printed c.arg)
+pub poly_printed_is : (c : PolyCase) → poly_printed c ≡ tight (Mark backtick) ∷ tight (Word c.name) ∷ of_argument (option_map shape_printed c.arg)
 unfolding poly_printed shape_printed
 poly_printed_is c = by_argument c.name c.arg
   where
     by_argument : (name : List ℕ) (arg : Option Shape) → poly_printed (record { name = name; arg = arg })
-        ≡ tight (Mark backtick) ∷ tight (Word name) ∷ argument (option_map shape_printed arg)
-    by_argument name None = fold_out-PolyCase Printed (List Piece) (List Piece) (List Piece) shape_step case_step field_step poly_step (record { name = name; arg = None })
-    by_argument name (Some s) = fold_out-PolyCase Printed (List Piece) (List Piece) (List Piece) shape_step case_step field_step poly_step (record { name = name; arg = Some s })
+        ≡ tight (Mark backtick) ∷ tight (Word name) ∷ of_argument (option_map shape_printed arg)
+    by_argument name None = fold_out-PolyCase Printed (List Piece) (List Piece) (List Piece) print_shape_step print_case_step print_field_step print_poly_step (record { name = name; arg = None })
+    by_argument name (Some s) = fold_out-PolyCase Printed (List Piece) (List Piece) (List Piece) print_shape_step print_case_step print_field_step print_poly_step (record { name = name; arg = Some s })
 
 -- ---- shapes
 
@@ -50,9 +50,9 @@ folded d =
     map-Shape Shape Case Field PolyCase Printed (List Piece) (List Piece) (List Piece)
     shape_printed case_printed field_printed poly_printed d
 
-pub layer_printed : (d : Shape-F Shape Case Field PolyCase) → shape_printed (roll-Shape d) ≡ shape_step (folded d)
+pub layer_printed : (d : Shape-F Shape Case Field PolyCase) → shape_printed (roll-Shape d) ≡ print_shape_step (folded d)
 unfolding shape_printed case_printed field_printed poly_printed
-layer_printed d = fold-roll-Shape Printed (List Piece) (List Piece) (List Piece) shape_step case_step field_step poly_step d
+layer_printed d = fold-roll-Shape Printed (List Piece) (List Piece) (List Piece) print_shape_step print_case_step print_field_step print_poly_step d
 
 pub printed_Opt : (s : Shape) → shape_printed (shp.Opt s) ≡ (false, as_part (shape_printed s) ++ spaced (Word (codes "option")) ∷ [])
 printed_Opt s = ap shape_printed (sym (shp.rolls-Opt s)) ∙ layer_printed (layer.Opt s)

@@ -1,18 +1,19 @@
 -- Readers of tokens that are right and whose reasons are told by the readings of twins, put together.
 use Rattle.std.proofs.Common.{◌≡◌, refl, sym, ap, ◌∙◌, subst, suc, arith, Option, Some, None, Bool, true, false, ℕ, List, [], ◌∷◌, ◌++◌, length, inl, inr}
 use Rattle.std.proofs.lemmas.List.{append-nil}
-use Rattle.readers.specs.Reader.{Outcome, whole, more, bad, after, mapped, Any, Follows, Is, IsNot, Front, FaultAt, Right, Plain, Then, Mapped, Done, One, one, Branch, branch, Begins, Run, run, Rest, rests, Others, others, Maybe, maybe}
+use Rattle.readers.specs.Reader.{Outcome, whole, more, bad, after, mapped, Any, Never, Follows, Is, IsNot, Front, FaultAt, Right, Plain, Then, Mapped, Done, One, one, Branch, branch, Begins, Run, run, Rest, rests, Others, others, Maybe, maybe, at_end, Ended, ended}
 use Rattle.readers.specs.Until.{Until, until}
 use Rattle.readers.proofs.Readers.{each-any, right_then, right_mapped, right_done}
 use Rattle.readers.proofs.Leaves.{plain, plain_one, right_branch}
 use Rattle.readers.proofs.Runs.{right_run}
 use Rattle.readers.proofs.Separators.{right_rest, right_others, right_maybe}
+use Rattle.readers.proofs.Ends.{right_end}
 use Rattle.readers.proofs.Limits.{cut_same}
 use Rattle.readers.proofs.Until.{plain_until}
 use Rattle.bp_text_grammar.specs.Tokens.{Token}
 use Rattle.bp_text_grammar.specs.Texts.{Why, BadText, IsValueFault}
 use Rattle.bp_text_grammar.specs.ShapeTexts.{IsFloatFault}
-use Rattle.bp_text_grammar.proofs.Twins.{Own, NoWord, FloatWord, is_own, int_word, Passed, Says, Twins, IsBlind, short_reads, passed_reads, mapped_twins, after_twins, leaf_twins, branch_twins, run_twins}
+use Rattle.bp_text_grammar.proofs.Twins.{Own, NoWord, FloatWord, is_own, int_word, Passed, Says, Twins, IsBlind, short_reads, passed_reads, mapped_twins, after_twins, leaf_twins, branch_twins, run_twins, early, here}
 use Rattle.bp_text_grammar.proofs.TwinLists.{others_twins, maybe_twins, rests_twins, until_twins}
 
 -- a reader of tokens is right, and the other reading tells its reasons
@@ -100,6 +101,30 @@ module _ {k : Own} {A : Type 0} (E : Token → Type 0) (L : A → List Token →
     right = plain_until Any E close BadText L r reads.right begins by_close closer closes;
     twins = λ c v p. until_twins k c v E L r reads.right (λ x. reads.twins c v x) close blind begins p;
   }
+
+-- ---- the end of all tokens
+
+end_reads : {k : Own} {A : Type 0} (a : A) → Reads k Never (Done a) (at_end BadText a)
+end_reads {k = k} {A = A} a = record { right = right_end Any BadText a; twins = twins }
+  where
+    twins : (c : Token) (v p : List Token) → Twins k c v (at_end BadText a (p ++ c ∷ v)) (at_end BadText a (p ++ int_word ∷ []))
+    twins c v [] = let o : Outcome Token Why A = bad 1 BadText in here k c v BadText o refl (λ own. (BadText, refl))
+    twins c v (b ∷ p) = let o : Outcome Token Why A = bad (length (b ∷ p ++ int_word ∷ [])) BadText in early k c v b p BadText o
+
+pub ended_reads : {k : Own} {A : Type 0} (E : Token → Type 0) (L : A → List Token → Type 0) (r : List Token → Outcome Token Why A) → Reads k E L r
+    → Reads k Never (Ended L) (ended BadText r)
+ended_reads E L r reads = meeting_reads E Never L r (λ x. Done x) (at_end BadText) reads (λ a t l. end_reads a) (λ a t l. (a, [], (refl, refl))) meets
+  where
+    meets : {A : Type 0} (a b : A) (u v : List Token) → Done a b u → Follows Never v → Follows E (u ++ v)
+    meets a b u [] (e, nil) f = rw nil tt
+    meets a b u (c ∷ v) (e, nil) f = absurd f
+
+-- what begins a text and the end begins a text
+pub ended_front : {A : Type 0} (L : A → List Token → Type 0) (p : List Token) → Front (Ended L) p → Front L p
+ended_front L p (a, x, (b, t, u, cut, l, (e, nil))) = (b, x, subst (λ y. L b y) (sym (cut ∙ (ap (λ y. t ++ y) nil ∙ append-nil t))) l)
+
+pub front_ended : {A : Type 0} (L : A → List Token → Type 0) (p : List Token) → Front L p → Front (Ended L) p
+front_ended L p (a, x, l) = (a, x, (a, p ++ x, [], sym (append-nil (p ++ x)), l, (refl, refl)))
 
 -- ---- what the other reading tells
 

@@ -11,8 +11,8 @@ use Rattle.bp_value.specs.Names.{IsDistinct}
 use Rattle.bp_value.specs.Faults.{nodes, part_nodes, case_nodes, case_names, IsGood}
 use Rattle.bp_value.proofs.Good.{AreGood, good_root, good_node, good_opt, good_listed, good_tuple, good_fields, good_sum, good_poly, good_part, good_case, some_cases, distinct_names}
 use Rattle.bp_text_grammar.specs.Tokens.{Token, Word, Number, Text, Char, Mark}
-use Rattle.bp_text_grammar.specs.Texts.{round_open, round_close, comma, semicolon, equals, square_open, square_close, backtick, curly_open, curly_close, same, is_mark, word, IsMark, IsWord, Onto}
-use Rattle.bp_text_grammar.specs.ValueTexts.{bool_of, char_of, number, text_of, atom_of, case_named, case_of, Items, Label, Inside, IsSexpTokens, IsValueTokens, ArePartTokens, AreMorePartTokens, AreFieldTokens, AreMoreFieldTokens, AreCaseTokens, AreArgumentTokens}
+use Rattle.bp_text_grammar.specs.Texts.{round_open, round_close, comma, semicolon, equals, square_open, square_close, backtick, curly_open, curly_close, same, is_mark, word_for, IsMark, IsWord, Onto}
+use Rattle.bp_text_grammar.specs.ValueTexts.{bool_of, char_value_of, number_of, text_of, atom_of, case_named, case_of, Items, Label, Inside, IsSexpTokens, IsValueTokens, ArePartTokens, AreMorePartTokens, AreFieldTokens, AreMoreFieldTokens, AreCaseTokens, AreArgumentTokens}
 use Rattle.bp_text_grammar.proofs.Words.{HasText, same_refl, mark_text, mark_begins_not, word_same, word_text, map_begins, then_text, mapped_text, after_mark, closed_text, onto_text}
 
 -- ---- which forms can be read: a variant has a case, and no two of its cases have one name
@@ -137,14 +137,14 @@ pub value_begins : (f : Form) → Begins (IsNot (is_mark square_close)) (IsValue
 unfolding IsValueTokens
 value_begins unit = then_begins (IsNot (is_mark square_close)) (IsMark round_open) _ (mark_begins_not square_close round_open refl)
 value_begins bool = leaf_begins square_close bool_of (λ b. refl)
-value_begins char = leaf_begins square_close char_of (λ b. refl)
-value_begins int = leaf_begins square_close (number 62) (λ b. refl)
-value_begins int32 = leaf_begins square_close (number 31) (λ b. refl)
-value_begins int64 = leaf_begins square_close (number 63) (λ b. refl)
+value_begins char = leaf_begins square_close char_value_of (λ b. refl)
+value_begins int = leaf_begins square_close (number_of 62) (λ b. refl)
+value_begins int32 = leaf_begins square_close (number_of 31) (λ b. refl)
+value_begins int64 = leaf_begins square_close (number_of 63) (λ b. refl)
 value_begins text = leaf_begins square_close text_of (λ b. refl)
 value_begins (opt f) =
-    branch_begins (IsNot (is_mark square_close)) (One (word (codes "none") val.Absent)) _ (leaf_begins square_close (word (codes "none") val.Absent) (λ b. refl))
-    (then_begins (IsNot (is_mark square_close)) (IsWord (codes "some")) _ (leaf_begins square_close (word (codes "some") tt) (λ b. refl)))
+    branch_begins (IsNot (is_mark square_close)) (One (word_for (codes "none") val.Absent)) _ (leaf_begins square_close (word_for (codes "none") val.Absent) (λ b. refl))
+    (then_begins (IsNot (is_mark square_close)) (IsWord (codes "some")) _ (leaf_begins square_close (word_for (codes "some") tt) (λ b. refl)))
 value_begins (listed f) = then_begins (IsNot (is_mark square_close)) (IsMark square_open) _ (mark_begins_not square_close square_open refl)
 value_begins (tuple fs) = then_begins (IsNot (is_mark square_close)) (IsMark round_open) _ (mark_begins_not square_close round_open refl)
 value_begins (fields fs) = then_begins (IsNot (is_mark square_close)) (IsMark curly_open) _ (mark_begins_not square_close curly_open refl)
@@ -171,7 +171,7 @@ label_text name = then_text (IsWord name) (λ x. IsMark equals) tt (Word name �
 pub after_label : {B : Type 0} (name : List ℕ) (M : B → List Token → Type 0) → HasText M → HasText (Then (Label name) (λ u. M))
 after_label name M has = let (u, ts, l) = label_text name in then_text (Label name) (λ u. M) u ts l has
 
-zero_text : (bits : ℕ) → number bits (Number (pos 0)) ≡ Some (val.Num (pos 0)) → HasText (One (number bits))
+zero_text : (bits : ℕ) → number_of bits (Number (pos 0)) ≡ Some (val.Num (pos 0)) → HasText (One (number_of bits))
 zero_text bits e = (val.Num (pos 0), Number (pos 0) ∷ [], (Number (pos 0), refl, e))
 
 mutual

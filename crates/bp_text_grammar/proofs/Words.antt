@@ -4,7 +4,7 @@ use Rattle.readers.specs.Reader.{Outcome, after, mapped, Any, Is, IsNot, Then, M
 use Rattle.readers.proofs.Readers.{follows-any}
 use Rattle.readers.proofs.Leaves.{pick_true, one_begins}
 use Rattle.bp_text_grammar.specs.Tokens.{Token, Word, Mark}
-use Rattle.bp_text_grammar.specs.Texts.{Why, BadText, same, is_mark, is_word, when, mark, word, IsMark, mark_at, IsWord, Closed, closed_at, Onto}
+use Rattle.bp_text_grammar.specs.Texts.{Why, BadText, same, is_mark, is_word, when, mark, word_for, IsMark, mark_at, IsWord, Closed, closed_at, Onto}
 use Rattle.bp_text_grammar.proofs.Twins.{Own, NoWord, FloatWord, int_word, IsBlind}
 use Rattle.bp_text_grammar.proofs.Told.{Reads, one_reads, mapped_reads, meeting_reads}
 
@@ -77,17 +77,17 @@ none_blind C t own = absurd cc
 
 -- ---- a word
 
-pub word_same : {A : Type 0} (w : List ℕ) (a : A) → word w a (Word w) ≡ Some a
+pub word_same : {A : Type 0} (w : List ℕ) (a : A) → word_for w a (Word w) ≡ Some a
 word_same w a = pick_true (same w w) (Some a) None (same_refl w)
 
-pub word_reads : {A : Type 0} (w : List ℕ) (a : A) → Reads NoWord Any (One (word w a)) (one (word w a) BadText)
-word_reads w a = one_reads (word w a) (Word w) a (word_same w a) (λ b own none. absurd cc)
+pub word_reads : {A : Type 0} (w : List ℕ) (a : A) → Reads NoWord Any (One (word_for w a)) (one (word_for w a) BadText)
+word_reads w a = one_reads (word_for w a) (Word w) a (word_same w a) (λ b own none. absurd cc)
 
 pub word_text : (w : List ℕ) → IsWord w tt (Word w ∷ [])
 word_text w = (Word w, refl, word_same w tt)
 
-pub word_begins : {A : Type 0} (w : List ℕ) (a : A) → Begins (Is (is_word w)) (One (word w a))
-word_begins w a = one_begins (Is (is_word w)) (word w a) (λ t b e. (when_is (is_word w t) a b e).0)
+pub word_begins : {A : Type 0} (w : List ℕ) (a : A) → Begins (Is (is_word w)) (One (word_for w a))
+word_begins w a = one_begins (Is (is_word w)) (word_for w a) (λ t b e. (when_is (is_word w t) a b e).0)
 
 pub words_is : (w : List ℕ) (t : Token) → is_word w t ≡ true → t ≡ Word w
 words_is w (Word x) e = ap Word (same_is x w e)
@@ -109,7 +109,7 @@ pub words_apart : (v w : List ℕ) → same w v ≡ false → (t : Token) → is
 words_apart v w apart t e = ap (λ x. is_word v x) (words_is w t e) ∙ apart
 
 pub word_begins_not : (v w : List ℕ) → same w v ≡ false → Begins (IsNot (is_word v)) (IsWord w)
-word_begins_not v w apart = one_begins (IsNot (is_word v)) (word w tt) (λ t b e. words_apart v w apart t (when_is (is_word w t) tt b e).0)
+word_begins_not v w apart = one_begins (IsNot (is_word v)) (word_for w tt) (λ t b e. words_apart v w apart t (when_is (is_word w t) tt b e).0)
 
 -- ---- put together
 

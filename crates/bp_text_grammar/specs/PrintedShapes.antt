@@ -28,13 +28,13 @@ factors (p ∷ ps) = as_part p ++ more_factors ps
 abbrev pub after_of : List Piece → List Piece
 after_of ps = spaced (Word (codes "of")) ∷ after_blank ps
 
-abbrev pub arguments : List Printed → List Piece
-arguments [] = []
-arguments (p ∷ ps) = after_of (factors (p ∷ ps))
+abbrev pub of_arguments : List Printed → List Piece
+of_arguments [] = []
+of_arguments (p ∷ ps) = after_of (factors (p ∷ ps))
 
-abbrev pub argument : Option Printed → List Piece
-argument None = []
-argument (Some p) = after_of p.1
+abbrev pub of_argument : Option Printed → List Piece
+of_argument None = []
+of_argument (Some p) = after_of p.1
 
 abbrev pub base : Token → Printed
 base t = (false, tight t ∷ [])
@@ -48,35 +48,35 @@ variant_pieces cs = tight (Mark square_open) ∷ list_pieces (spaced (Mark bar))
 
 -- ---- one layer of a shape, whose children are printed already
 
-abbrev pub shape_step : Shape-F Printed (List Piece) (List Piece) (List Piece) → Printed
-shape_step layer.Unit = base (Word (codes "unit"))
-shape_step layer.Bool = base (Word (codes "bool"))
-shape_step layer.Char = base (Word (codes "char"))
-shape_step layer.Int = base (Word (codes "int"))
-shape_step layer.Int32 = base (Word (codes "int32"))
-shape_step layer.Int64 = base (Word (codes "int64"))
-shape_step layer.Text = base (Word (codes "string"))
-shape_step (layer.Opt p) = (false, as_part p ++ spaced (Word (codes "option")) ∷ [])
-shape_step (layer.List p) = (false, as_part p ++ spaced (Word (codes "list")) ∷ [])
-shape_step (layer.Tuple ps) = (true, factors ps)
-shape_step (layer.Fields fs) = (false, record_pieces fs)
-shape_step (layer.Sum cs) = (false, variant_pieces cs)
-shape_step (layer.Poly cs) = (false, variant_pieces cs)
-shape_step layer.Sexp = base (Word (codes "sexp"))
+abbrev pub print_shape_step : Shape-F Printed (List Piece) (List Piece) (List Piece) → Printed
+print_shape_step layer.Unit = base (Word (codes "unit"))
+print_shape_step layer.Bool = base (Word (codes "bool"))
+print_shape_step layer.Char = base (Word (codes "char"))
+print_shape_step layer.Int = base (Word (codes "int"))
+print_shape_step layer.Int32 = base (Word (codes "int32"))
+print_shape_step layer.Int64 = base (Word (codes "int64"))
+print_shape_step layer.Text = base (Word (codes "string"))
+print_shape_step (layer.Opt p) = (false, as_part p ++ spaced (Word (codes "option")) ∷ [])
+print_shape_step (layer.List p) = (false, as_part p ++ spaced (Word (codes "list")) ∷ [])
+print_shape_step (layer.Tuple ps) = (true, factors ps)
+print_shape_step (layer.Fields fs) = (false, record_pieces fs)
+print_shape_step (layer.Sum cs) = (false, variant_pieces cs)
+print_shape_step (layer.Poly cs) = (false, variant_pieces cs)
+print_shape_step layer.Sexp = base (Word (codes "sexp"))
 
-abbrev pub case_step : Case-F Printed (List Piece) (List Piece) (List Piece) → List Piece
-case_step c = tight (Word c.name) ∷ arguments c.args
+abbrev pub print_case_step : Case-F Printed (List Piece) (List Piece) (List Piece) → List Piece
+print_case_step c = tight (Word c.name) ∷ of_arguments c.args
 
-abbrev pub field_step : Field-F Printed (List Piece) (List Piece) (List Piece) → List Piece
-field_step f = tight (Word f.name) ∷ tight (Mark colon) ∷ after_blank f.shape.1
+abbrev pub print_field_step : Field-F Printed (List Piece) (List Piece) (List Piece) → List Piece
+print_field_step f = tight (Word f.name) ∷ tight (Mark colon) ∷ after_blank f.shape.1
 
-abbrev pub poly_step : PolyCase-F Printed (List Piece) (List Piece) (List Piece) → List Piece
-poly_step c = tight (Mark backtick) ∷ tight (Word c.name) ∷ argument c.arg
+abbrev pub print_poly_step : PolyCase-F Printed (List Piece) (List Piece) (List Piece) → List Piece
+print_poly_step c = tight (Mark backtick) ∷ tight (Word c.name) ∷ of_argument c.arg
 
 -- ---- all shapes
 
 unfoldable pub shape_printed : Shape → Printed
-shape_printed s = fold-Shape Printed (List Piece) (List Piece) (List Piece) shape_step case_step field_step poly_step s
+shape_printed s = fold-Shape Printed (List Piece) (List Piece) (List Piece) print_shape_step print_case_step print_field_step print_poly_step s
 
 unfoldable pub shape_pieces : Shape → List Piece
 shape_pieces s = (shape_printed s).1

@@ -22,12 +22,12 @@ all_items [] = tight (Mark round_close) ∷ []
 all_items (s ∷ ss) = s ++ more_items ss
 
 -- one layer, whose items are printed already
-abbrev pub sexp_step : Sexp-F (List Piece) → List Piece
-sexp_step (sexp_layer.Atom t) = tight (Text t) ∷ []
-sexp_step (sexp_layer.List ss) = tight (Mark round_open) ∷ all_items ss
+abbrev pub print_sexp_step : Sexp-F (List Piece) → List Piece
+print_sexp_step (sexp_layer.Atom t) = tight (Text t) ∷ []
+print_sexp_step (sexp_layer.List ss) = tight (Mark round_open) ∷ all_items ss
 
 unfoldable pub sexp_pieces : Sexp → List Piece
-sexp_pieces s = fold-Sexp (List Piece) sexp_step s
+sexp_pieces s = fold-Sexp (List Piece) print_sexp_step s
 
 -- ---- values, by the layer that a form looks for
 

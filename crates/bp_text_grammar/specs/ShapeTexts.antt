@@ -1,7 +1,7 @@
 -- Which tokens are a text of which shape: a relation by the brackets that may still be opened, without position or state; and
 -- the reading of them, a total function of the tokens.
 use Rattle.std.specs.Prelude.{Option, Some, None, ◌≡◌, ℕ, zero, suc, Bool, true, ◌||◌, not, nat_le, if◌then◌else◌, List, [], ◌∷◌, ◌++◌, length, codes}
-use Rattle.readers.specs.Reader.{Outcome, after, mapped, Front, Then, Mapped, One, one, leaf, first, Branch, branch, Run, run, Rest, rests, Others, others, Maybe, maybe}
+use Rattle.readers.specs.Reader.{Outcome, after, mapped, Front, Then, Mapped, One, one, leaf, first, Branch, branch, Run, run, Rest, rests, Others, others, Maybe, maybe, ended}
 use Rattle.bp_value.specs.declared.shape.Shape.{Shape}
 use Rattle.bp_value.specs.declared.shape.Shape.TheVariants as shp
 use Rattle.bp_value.specs.declared.shape.Field.{Field}
@@ -187,3 +187,7 @@ base_at (suc d) ts =
 
 unfoldable pub shape_at : List Token → Outcome Token Why Shape
 shape_at ts = product_at (base_at most_brackets) ts
+
+-- the reading of a text of nothing but a shape
+abbrev pub whole_shape_at : List Token → Outcome Token Why Shape
+whole_shape_at ts = ended BadText shape_at ts

@@ -79,8 +79,8 @@ abbrev pub mark : ℕ → Token → Option (Unit {0})
 mark m t = when (is_mark m t) tt
 
 -- a word that stands for a value
-abbrev pub word : {A : Type 0} → List ℕ → A → Token → Option A
-word w a t = when (is_word w t) a
+abbrev pub word_for : {A : Type 0} → List ℕ → A → Token → Option A
+word_for w a t = when (is_word w t) a
 
 abbrev pub IsMark : ℕ → Unit {0} → List Token → Type 0
 IsMark m u ts = One (mark m) u ts
@@ -89,10 +89,10 @@ abbrev pub mark_at : ℕ → List Token → Outcome Token Why (Unit {0})
 mark_at m ts = one (mark m) BadText ts
 
 abbrev pub IsWord : List ℕ → Unit {0} → List Token → Type 0
-IsWord w u ts = One (word w tt) u ts
+IsWord w u ts = One (word_for w tt) u ts
 
 abbrev pub word_at : List ℕ → List Token → Outcome Token Why (Unit {0})
-word_at w ts = one (word w tt) BadText ts
+word_at w ts = one (word_for w tt) BadText ts
 
 -- ---- lists
 

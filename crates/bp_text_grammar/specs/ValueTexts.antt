@@ -2,7 +2,7 @@
 -- reading of them, a total function of the form and the tokens.
 use Rattle.std.specs.Prelude.{Option, Some, None, ◌≤◌, ℕ, ℤ, zero, suc, pos, negsuc, ◌^◌, Bool, true, false, nat_lt, if◌then◌else◌, List, [], length, codes}
 use Rattle.std.specs.Option.{option_map}
-use Rattle.readers.specs.Reader.{Outcome, Each, whole, more, after, mapped, Then, Mapped, Done, One, one, Branch, branch, Rest, rests}
+use Rattle.readers.specs.Reader.{Outcome, Each, whole, more, after, mapped, Then, Mapped, Done, One, one, Branch, branch, Rest, rests, ended}
 use Rattle.readers.specs.Until.{Until, until}
 use Rattle.bp_value.specs.declared.value.Value.{Value}
 use Rattle.bp_value.specs.declared.value.Value.TheVariants as val
@@ -11,25 +11,25 @@ use Rattle.bp_value.specs.declared.value.Sexp.TheVariants as sx
 use Rattle.bp_value.specs.Limits.{deepest_sexp}
 use Rattle.bp_value.specs.Form.{Form, Parts, Cases, unit, bool, char, int, int32, int64, text, opt, listed, tuple, fields, sum, poly, sexp, end, part, end_cases, case}
 use Rattle.bp_text_grammar.specs.Tokens.{Token, Word, Number, Text, Char}
-use Rattle.bp_text_grammar.specs.Texts.{Why, BadText, round_open, round_close, comma, semicolon, equals, square_open, square_close, backtick, curly_open, curly_close, same, is_mark, is_word, when, word, IsMark, mark_at, IsWord, word_at, Closed, closed_at, Onto, onto_at}
+use Rattle.bp_text_grammar.specs.Texts.{Why, BadText, round_open, round_close, comma, semicolon, equals, square_open, square_close, backtick, curly_open, curly_close, same, is_mark, is_word, when, word_for, IsMark, mark_at, IsWord, word_at, Closed, closed_at, Onto, onto_at}
 
 -- ---- leaves of one token
 
 abbrev pub bool_of : Token → Option Value
-bool_of t = if is_word (codes "true") t then Some (val.Bool true) else word (codes "false") (val.Bool false) t
+bool_of t = if is_word (codes "true") t then Some (val.Bool true) else word_for (codes "false") (val.Bool false) t
 
-abbrev pub char_of : Token → Option Value
-char_of (Char b) = Some (val.Char b)
-char_of _ = None
+abbrev pub char_value_of : Token → Option Value
+char_value_of (Char b) = Some (val.Char b)
+char_value_of _ = None
 
 -- from -2^bits to 2^bits - 1
 abbrev pub in_range : ℕ → ℤ → Bool
 in_range bits (pos n) = nat_lt n (2 ^ bits)
 in_range bits (negsuc n) = nat_lt n (2 ^ bits)
 
-abbrev pub number : ℕ → Token → Option Value
-number bits (Number n) = when (in_range bits n) (val.Num n)
-number bits _ = None
+abbrev pub number_of : ℕ → Token → Option Value
+number_of bits (Number n) = when (in_range bits n) (val.Num n)
+number_of bits _ = None
 
 abbrev pub text_of : Token → Option Value
 text_of (Text t) = Some (val.Text t)
@@ -69,9 +69,9 @@ IsSexpTokens zero x ts = ⊥
 IsSexpTokens (suc d) x ts = Branch (Then (IsMark round_open) (λ u. Mapped sx.List (Inside d (IsSexpTokens d)))) (One atom_of) x ts
 
 -- the language of the case at a place: of this one at place 0, of a later one at the place after it
-abbrev pub AtCase : {A : Type 0} → (A → List Token → Type 0) → (ℕ → A → List Token → Type 0) → ℕ → A → List Token → Type 0
-AtCase Here Later zero a ts = Here a ts
-AtCase Here Later (suc place) a ts = Later place a ts
+abbrev pub CaseAt : {A : Type 0} → (A → List Token → Type 0) → (ℕ → A → List Token → Type 0) → ℕ → A → List Token → Type 0
+CaseAt Here Later zero a ts = Here a ts
+CaseAt Here Later (suc place) a ts = Later place a ts
 
 -- ---- all forms
 
@@ -79,13 +79,13 @@ unfoldable mutual
   pub IsValueTokens : Form → Value → List Token → Type 0
   IsValueTokens unit v ts = Then (IsMark round_open) (λ u. Mapped (λ x. val.Unit) (IsMark round_close)) v ts
   IsValueTokens bool v ts = One bool_of v ts
-  IsValueTokens char v ts = One char_of v ts
-  IsValueTokens int v ts = One (number 62) v ts
-  IsValueTokens int32 v ts = One (number 31) v ts
-  IsValueTokens int64 v ts = One (number 63) v ts
+  IsValueTokens char v ts = One char_value_of v ts
+  IsValueTokens int v ts = One (number_of 62) v ts
+  IsValueTokens int32 v ts = One (number_of 31) v ts
+  IsValueTokens int64 v ts = One (number_of 63) v ts
   IsValueTokens text v ts = One text_of v ts
   IsValueTokens (opt f) v ts =
-      Branch (One (word (codes "none") val.Absent)) (Then (IsWord (codes "some")) (λ u. Mapped val.Present (IsValueTokens f))) v ts
+      Branch (One (word_for (codes "none") val.Absent)) (Then (IsWord (codes "some")) (λ u. Mapped val.Present (IsValueTokens f))) v ts
   IsValueTokens (listed f) v ts = Then (IsMark square_open) (λ u. Mapped val.Items (Items (IsValueTokens f))) v ts
   IsValueTokens (tuple fs) v ts = Then (IsMark round_open) (λ u. Mapped val.Parts (ArePartTokens fs)) v ts
   IsValueTokens (fields fs) v ts = Then (IsMark curly_open) (λ u. Mapped val.Parts (AreFieldTokens fs)) v ts
@@ -118,7 +118,7 @@ unfoldable mutual
   -- the arguments of the case at a place: nothing, or all of them in round brackets
   pub AreCaseTokens : Cases → ℕ → List Value → List Token → Type 0
   AreCaseTokens end_cases place vs ts = ⊥
-  AreCaseTokens (case name fs cs) place vs ts = AtCase (AreArgumentTokens fs) (AreCaseTokens cs) place vs ts
+  AreCaseTokens (case name fs cs) place vs ts = CaseAt (AreArgumentTokens fs) (AreCaseTokens cs) place vs ts
 
   pub AreArgumentTokens : Parts → List Value → List Token → Type 0
   AreArgumentTokens end vs ts = Done [] vs ts
@@ -161,13 +161,13 @@ unfoldable mutual
   pub value_at : Form → List Token → Outcome Token Why Value
   value_at unit ts = after (mark_at round_open ts) (λ u us. mapped (λ x. val.Unit) (mark_at round_close us))
   value_at bool ts = one bool_of BadText ts
-  value_at char ts = one char_of BadText ts
-  value_at int ts = one (number 62) BadText ts
-  value_at int32 ts = one (number 31) BadText ts
-  value_at int64 ts = one (number 63) BadText ts
+  value_at char ts = one char_value_of BadText ts
+  value_at int ts = one (number_of 62) BadText ts
+  value_at int32 ts = one (number_of 31) BadText ts
+  value_at int64 ts = one (number_of 63) BadText ts
   value_at text ts = one text_of BadText ts
   value_at (opt f) ts =
-      branch (is_word (codes "none")) (one (word (codes "none") val.Absent) BadText)
+      branch (is_word (codes "none")) (one (word_for (codes "none") val.Absent) BadText)
       (λ us. after (word_at (codes "some") us) (λ u xs. mapped val.Present (value_at f xs))) ts
   value_at (listed f) ts = after (mark_at square_open ts) (λ u us. mapped val.Items (items_at (value_at f) us))
   value_at (tuple fs) ts = after (mark_at round_open ts) (λ u us. mapped val.Parts (parts_at fs us))
@@ -201,3 +201,7 @@ unfoldable mutual
   pub arguments_at : Parts → List Token → Outcome Token Why (List Value)
   arguments_at end ts = whole [] ts
   arguments_at (part name f fs) ts = after (mark_at round_open ts) (λ u us. onto_at (value_at f) (more_parts_at fs) us)
+
+-- the reading of a text of nothing but a value
+abbrev pub whole_value_at : Form → List Token → Outcome Token Why Value
+whole_value_at f ts = ended BadText (value_at f) ts
