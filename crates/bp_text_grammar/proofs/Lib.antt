@@ -17,3 +17,4 @@ pub mod Laid
 pub mod LaidValues
 pub mod RoundTrips
 pub mod LaidShapes
+pub mod Examples
