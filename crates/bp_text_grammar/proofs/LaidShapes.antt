@@ -19,9 +19,9 @@ use Rattle.bp_value.proofs.Forms.{form_of-Opt, form_of-List, form_of-Tuple, form
 use Rattle.bp_value.proofs.Good.{AreGood, good_root, good_node, good_opt, good_listed, good_tuple, good_fields, good_sum, good_poly, good_part, good_case, good_names}
 use Rattle.bp_text_grammar.specs.Tokens.{Word, Mark}
 use Rattle.bp_text_grammar.specs.Texts.{round_open, round_close, star, colon, semicolon, square_open, square_close, backtick, curly_open, bar, curly_close}
-use Rattle.bp_text_grammar.specs.Printed.{Piece, tight, spaced, after_blank, list_pieces, IsApart, AreLaid}
+use Rattle.bp_text_grammar.specs.PrintedPieces.{Piece, tight, spaced, after_blank, list_pieces, IsApart, AreLaid}
 use Rattle.bp_text_grammar.specs.PrintedShapes.{Printed, as_part, more_factors, factors, after_of, of_arguments, of_argument, record_pieces, variant_pieces, shape_printed, shape_pieces}
-use Rattle.bp_text_grammar.proofs.Laid.{laid_join, laid_blank, apart_after, laid_mark, laid_word, list_laid, plain_name}
+use Rattle.bp_text_grammar.proofs.LaidPieces.{laid_join, laid_blank, apart_after, laid_mark, laid_word, list_laid, plain_name}
 use Rattle.bp_text_grammar.proofs.ShapeLayers.{case_printed, field_printed, poly_printed, case_printed_is, field_printed_is, poly_printed_is, layer_printed, printed_Opt, printed_List, printed_Tuple, printed_Fields, printed_Sum, printed_Poly, by_layers}
 
 -- ---- parts

@@ -13,9 +13,9 @@ use Rattle.bp_value.proofs.Layers.{out_absent, out_bool, out_char, out_num, out_
 use Rattle.bp_value.proofs.Good.{AreGood, good_root, good_node, good_opt, good_listed, good_tuple, good_fields, good_sum, good_poly, good_part, good_case, good_names}
 use Rattle.bp_text_grammar.specs.Tokens.{Word, Mark}
 use Rattle.bp_text_grammar.specs.Texts.{round_open, round_close, comma, semicolon, equals, square_open, square_close, backtick, curly_open, curly_close}
-use Rattle.bp_text_grammar.specs.Printed.{Piece, tight, spaced, after_blank, list_pieces, IsApart, AreLaid}
+use Rattle.bp_text_grammar.specs.PrintedPieces.{Piece, tight, spaced, after_blank, list_pieces, IsApart, AreLaid}
 use Rattle.bp_text_grammar.specs.PrintedValues.{more_items, all_items, sexp_pieces, name_at, labelled, value_pieces, part_pieces, more_part_pieces, field_pieces, more_field_pieces, argument_pieces_at, argument_pieces}
-use Rattle.bp_text_grammar.proofs.Laid.{laid_join, laid_blank, apart_blank, apart_after, laid_mark, laid_word, list_laid, plain_name, wider}
+use Rattle.bp_text_grammar.proofs.LaidPieces.{laid_join, laid_blank, apart_blank, apart_after, laid_mark, laid_word, list_laid, plain_name, wider}
 use Rattle.bp_text_grammar.proofs.PrintedValues.{sexp_pieces-Atom, sexp_pieces-List}
 
 -- ---- S-expressions

@@ -7,13 +7,13 @@ pub mod ValueStarts
 pub mod RightValues
 pub mod RightShapes
 pub mod LongestFronts
-pub mod Pieces
+pub mod PieceTokens
 pub mod PrintedValues
 pub mod ShapeLayers
 pub mod PrintedShapes
 pub mod PrintedGood
 pub mod ReadFits
-pub mod Laid
+pub mod LaidPieces
 pub mod LaidValues
 pub mod RoundTrips
 pub mod LaidShapes

@@ -20,10 +20,10 @@ use Rattle.bp_value.proofs.Good.{AreGood, good_root, good_node, good_fields, goo
 use Rattle.bp_text_grammar.specs.Tokens.{Token, Mark}
 use Rattle.bp_text_grammar.specs.Texts.{semicolon, square_open, square_close, curly_open, bar, curly_close}
 use Rattle.bp_text_grammar.specs.ShapeTexts.{IsField, IsSumCase, IsPolyCase, AreSome, IsBase, IsShapeTokens}
-use Rattle.bp_text_grammar.specs.Printed.{Piece, tight, spaced, after_blank, tokens_of, more_pieces, list_pieces}
+use Rattle.bp_text_grammar.specs.PrintedPieces.{Piece, tight, spaced, after_blank, tokens_of, more_pieces, list_pieces}
 use Rattle.bp_text_grammar.specs.PrintedShapes.{record_pieces, variant_pieces, shape_pieces, shape_tokens}
 use Rattle.bp_text_grammar.proofs.Words.{mark_text}
-use Rattle.bp_text_grammar.proofs.Pieces.{tokens_join, rest_printed}
+use Rattle.bp_text_grammar.proofs.PieceTokens.{tokens_join, rest_printed}
 use Rattle.bp_text_grammar.proofs.ShapeLayers.{case_printed, field_printed, poly_printed, layer_printed, printed_Fields, printed_Sum, printed_Poly, by_layers}
 use Rattle.bp_text_grammar.proofs.PrintedShapes.{IsPrinted, FieldIsPrinted, CaseIsPrinted, PolyIsPrinted, Printable, depth_of, some_bracket, single, base_alone, leaf, tuple_printed, option_printed, list_printed, field_is_printed, case_is_printed, poly_is_printed}
 

@@ -19,10 +19,10 @@ use Rattle.bp_value.proofs.Good.{AreGood, good_node, good_opt, good_listed, good
 use Rattle.bp_text_grammar.specs.Tokens.{Token, Word, Mark}
 use Rattle.bp_text_grammar.specs.Texts.{round_open, round_close, star, colon, backtick, is_word}
 use Rattle.bp_text_grammar.specs.ShapeTexts.{most_posts, name_of, base_of, is_star, is_post, is_of, posted, no_arguments, IsPart, AreFactors, IsProduct, IsField, IsSumCase, IsPolyCase, IsBase}
-use Rattle.bp_text_grammar.specs.Printed.{Piece, tight, spaced, after_blank, tokens_of}
+use Rattle.bp_text_grammar.specs.PrintedPieces.{Piece, tight, spaced, after_blank, tokens_of}
 use Rattle.bp_text_grammar.specs.PrintedShapes.{as_part, more_factors, factors, after_of, of_arguments, of_argument, shape_printed}
 use Rattle.bp_text_grammar.proofs.Words.{mark_text}
-use Rattle.bp_text_grammar.proofs.Pieces.{tokens_join, tokens_blank, tokens_after_blank}
+use Rattle.bp_text_grammar.proofs.PieceTokens.{tokens_join, tokens_blank, tokens_after_blank}
 use Rattle.bp_text_grammar.proofs.ShapeLayers.{case_printed, field_printed, poly_printed, case_printed_is, field_printed_is, poly_printed_is, printed_Opt, printed_List, printed_Tuple}
 
 -- ---- a part: a base, and the words after it

@@ -24,11 +24,11 @@ use Rattle.bp_value.proofs.Layers.{out_absent, out_bool, out_char, out_num, out_
 use Rattle.bp_text_grammar.specs.Tokens.{Token, Word, Number, Text, Char, Mark}
 use Rattle.bp_text_grammar.specs.Texts.{round_open, round_close, comma, semicolon, equals, square_open, square_close, backtick, curly_open, curly_close, same, is_mark, IsMark, Closed, Onto}
 use Rattle.bp_text_grammar.specs.ValueTexts.{in_range, number_of, case_named, case_of, Items, Label, Inside, IsSexpTokens, IsValueTokens, ArePartTokens, AreMorePartTokens, AreFieldTokens, AreMoreFieldTokens, AreCaseTokens, AreArgumentTokens}
-use Rattle.bp_text_grammar.specs.Printed.{Piece, tight, after_blank, tokens_of, more_pieces, list_pieces}
+use Rattle.bp_text_grammar.specs.PrintedPieces.{Piece, tight, after_blank, tokens_of, more_pieces, list_pieces}
 use Rattle.bp_text_grammar.specs.PrintedValues.{more_items, all_items, print_sexp_step, sexp_pieces, name_at, labelled, value_pieces, part_pieces, more_part_pieces, field_pieces, more_field_pieces, argument_pieces_at, argument_pieces, value_tokens}
 use Rattle.bp_text_grammar.proofs.Words.{same_is, mark_text, word_text, word_same}
 use Rattle.bp_text_grammar.proofs.ValueStarts.{IsRead, ArePartsRead, AreCasesRead, case_count, good_read, first_named}
-use Rattle.bp_text_grammar.proofs.Pieces.{tokens_join, tokens_blank, tokens_after_blank, rest_printed}
+use Rattle.bp_text_grammar.proofs.PieceTokens.{tokens_join, tokens_blank, tokens_after_blank, rest_printed}
 
 -- ---- parts
 

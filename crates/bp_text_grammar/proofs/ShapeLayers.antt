@@ -12,7 +12,7 @@ use Rattle.bp_value.specs.declared.shape.Field.{Field, fold_out-Field}
 use Rattle.bp_value.specs.declared.shape.PolyCase.{PolyCase, fold_out-PolyCase}
 use Rattle.bp_text_grammar.specs.Tokens.{Word, Mark}
 use Rattle.bp_text_grammar.specs.Texts.{colon, backtick}
-use Rattle.bp_text_grammar.specs.Printed.{Piece, tight, spaced, after_blank}
+use Rattle.bp_text_grammar.specs.PrintedPieces.{Piece, tight, spaced, after_blank}
 use Rattle.bp_text_grammar.specs.PrintedShapes.{Printed, as_part, factors, of_arguments, of_argument, record_pieces, variant_pieces, print_shape_step, print_case_step, print_field_step, print_poly_step, shape_printed}
 
 -- ---- members

@@ -3,6 +3,6 @@ pub mod Texts
 pub mod ValueTexts
 pub mod ShapeTexts
 pub mod ShapeFronts
-pub mod Printed
+pub mod PrintedPieces
 pub mod PrintedValues
 pub mod PrintedShapes

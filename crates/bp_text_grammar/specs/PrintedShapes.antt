@@ -5,7 +5,7 @@ use Rattle.bp_value.specs.declared.shape.Shape.TheOpen.{Shape-F, Case-F, Field-F
 use Rattle.bp_value.specs.declared.shape.Shape.TheOpen as layer
 use Rattle.bp_text_grammar.specs.Tokens.{Token, Word, Mark}
 use Rattle.bp_text_grammar.specs.Texts.{round_open, round_close, star, colon, semicolon, square_open, square_close, backtick, curly_open, bar, curly_close}
-use Rattle.bp_text_grammar.specs.Printed.{Piece, tight, spaced, after_blank, tokens_of, list_pieces, bytes_of}
+use Rattle.bp_text_grammar.specs.PrintedPieces.{Piece, tight, spaced, after_blank, tokens_of, list_pieces, bytes_of}
 
 -- whether a shape is a tuple, and its pieces without brackets round them
 abbrev pub Printed : Type 0

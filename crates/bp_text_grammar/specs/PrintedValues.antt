@@ -9,7 +9,7 @@ use Rattle.bp_value.specs.declared.value.Sexp.TheOpen as sexp_layer
 use Rattle.bp_value.specs.Form.{Form, Parts, Cases, unit, bool, char, int, int32, int64, text, opt, listed, tuple, fields, sum, poly, sexp, end, part, end_cases, case}
 use Rattle.bp_text_grammar.specs.Tokens.{Token, Word, Number, Text, Char, Mark}
 use Rattle.bp_text_grammar.specs.Texts.{round_open, round_close, comma, semicolon, equals, square_open, square_close, backtick, curly_open, curly_close}
-use Rattle.bp_text_grammar.specs.Printed.{Piece, tight, spaced, after_blank, tokens_of, list_pieces, bytes_of}
+use Rattle.bp_text_grammar.specs.PrintedPieces.{Piece, tight, spaced, after_blank, tokens_of, list_pieces, bytes_of}
 
 -- ---- S-expressions: the items with a blank between them
 

@@ -5,7 +5,7 @@ use Rattle.std.proofs.lemmas.List.Elements.{All-head, All-tail}
 use Rattle.readers.specs.Reader.{Rest}
 use Rattle.bp_text_grammar.specs.Tokens.{Token, Mark}
 use Rattle.bp_text_grammar.specs.Texts.{is_mark}
-use Rattle.bp_text_grammar.specs.Printed.{Piece, after_blank, tokens_of, more_pieces}
+use Rattle.bp_text_grammar.specs.PrintedPieces.{Piece, after_blank, tokens_of, more_pieces}
 
 pub mark_is_itself : (m : ℕ) → is_mark m (Mark m) ≡ true
 mark_is_itself m = grind arith

@@ -7,7 +7,7 @@ use Rattle.bp_value.specs.Names.{IsShapeName, IsNameStart, IsNameByte}
 use Rattle.bp_value.specs.Fits.{InRange}
 use Rattle.bp_value.proofs.Fitted.{range_is}
 use Rattle.bp_text_grammar.specs.Tokens.{Word, Mark}
-use Rattle.bp_text_grammar.specs.Printed.{Piece, after_blank, more_pieces, list_pieces, marks, among, IsApart, AreLaid}
+use Rattle.bp_text_grammar.specs.PrintedPieces.{Piece, after_blank, more_pieces, list_pieces, marks, among, IsApart, AreLaid}
 
 -- ---- put together
 
