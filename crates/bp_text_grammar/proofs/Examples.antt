@@ -193,8 +193,11 @@ record_written : shape_text_of (shp.Fields (a_field ∷ b_field ∷ [])) ≡ cod
 record_written =
     written (shp.Fields (a_field ∷ b_field ∷ [])) _ (printed_Fields (a_field ∷ b_field ∷ [])
     ∙ ((λ i. (false, record_pieces (field_printed_is a_field i ∷ field_printed_is b_field i ∷ [])))
-    ∙ (λ i. (false, record_pieces ((tight (Word (codes "a")) ∷ tight (Mark 58) ∷ after_blank (int_printed i).1)
-    ∷ (tight (Word (codes "b")) ∷ tight (Mark 58) ∷ after_blank (strings i).1) ∷ [])))))
+    ∙ (λ i. (
+      false,
+      record_pieces ((tight (Word (codes "a")) ∷ tight (Mark 58) ∷ after_blank (int_printed i).1)
+          ∷ (tight (Word (codes "b")) ∷ tight (Mark 58) ∷ after_blank (strings i).1) ∷ []),
+    ))))
   where
     strings : shape_printed (shp.List shp.Text) ≡ (false, as_part (base (Word (codes "string"))) ++ spaced (Word (codes "list")) ∷ [])
     strings = printed_List shp.Text ∙ (λ i. (false, as_part (text_printed i) ++ spaced (Word (codes "list")) ∷ []))
@@ -221,5 +224,8 @@ poly_written : shape_text_of (shp.Poly (query ∷ abort ∷ [])) ≡ codes "[`Qu
 poly_written =
     written (shp.Poly (query ∷ abort ∷ [])) _ (printed_Poly (query ∷ abort ∷ [])
     ∙ ((λ i. (false, variant_pieces (poly_printed_is query i ∷ poly_printed_is abort i ∷ [])))
-    ∙ (λ i. (false, variant_pieces ((tight (Mark 96) ∷ tight (Word (codes "Query")) ∷ of_argument (Some (pair_printed i)))
-    ∷ (tight (Mark 96) ∷ tight (Word (codes "Abort")) ∷ []) ∷ [])))))
+    ∙ (λ i. (
+      false,
+      variant_pieces ((tight (Mark 96) ∷ tight (Word (codes "Query")) ∷ of_argument (Some (pair_printed i)))
+          ∷ (tight (Mark 96) ∷ tight (Word (codes "Abort")) ∷ []) ∷ []),
+    ))))

@@ -47,7 +47,7 @@ more_laid sep close gap w is_sep is_close [] all = (laid_mark false close [] is_
 more_laid {A = A} sep close gap w is_sep is_close (v ∷ vs) all =
     let (rest, apart) = more_laid sep close gap w is_sep is_close vs (All-tail (λ v. AreLaid (w v)) v vs all) in (
       laid_mark gap sep (after_blank (w v) ++ more_pieces (gap, Mark sep) close w vs) is_sep
-      (laid_join (after_blank (w v)) (more_pieces (gap, Mark sep) close w vs) (laid_blank (w v) (All-head (λ v. AreLaid (w v)) v vs all)) rest apart),
+          (laid_join (after_blank (w v)) (more_pieces (gap, Mark sep) close w vs) (laid_blank (w v) (All-head (λ v. AreLaid (w v)) v vs all)) rest apart),
       either gap,
     )
   where

@@ -42,9 +42,11 @@ post_laid p w is laid = laid_join (as_part p) (spaced (Word w) ∷ []) (part_lai
 more_factors_laid : (ps : List Printed) → All (λ p. AreLaid p.1) ps → AreLaid (more_factors ps) × IsApart (more_factors ps)
 more_factors_laid [] all = (tt, tt)
 more_factors_laid (p ∷ ps) all =
-    let (rest, apart) = more_factors_laid ps (All-tail (λ p. AreLaid p.1) p ps all) in
-    (laid_mark true star (after_blank (as_part p) ++ more_factors ps) refl
-    (laid_join (after_blank (as_part p)) (more_factors ps) (laid_blank (as_part p) (part_laid p (All-head (λ p. AreLaid p.1) p ps all))) rest apart), tt)
+    let (rest, apart) = more_factors_laid ps (All-tail (λ p. AreLaid p.1) p ps all) in (
+      laid_mark true star (after_blank (as_part p) ++ more_factors ps) refl
+          (laid_join (after_blank (as_part p)) (more_factors ps) (laid_blank (as_part p) (part_laid p (All-head (λ p. AreLaid p.1) p ps all))) rest apart),
+      tt,
+    )
 
 factors_laid : (ps : List Printed) → All (λ p. AreLaid p.1) ps → AreLaid (factors ps)
 factors_laid [] all = tt

@@ -113,9 +113,11 @@ mutual
   more_parts_laid m d (part name f fs) [] good fits = absurd fits
   more_parts_laid m d (part name f fs) (v ∷ vs) good fits =
       let both = good_part d name f fs good in
-      let (rest, apart) = more_parts_laid m d fs vs both.1 fits.1 in
-      (laid_mark false comma (after_blank (value_pieces f v) ++ more_part_pieces fs vs) refl
-      (laid_join (after_blank (value_pieces f v)) (more_part_pieces fs vs) (laid_blank (value_pieces f v) (laid_at m d f v both.0 fits.0)) rest apart), tt)
+      let (rest, apart) = more_parts_laid m d fs vs both.1 fits.1 in (
+        laid_mark false comma (after_blank (value_pieces f v) ++ more_part_pieces fs vs) refl
+            (laid_join (after_blank (value_pieces f v)) (more_part_pieces fs vs) (laid_blank (value_pieces f v) (laid_at m d f v both.0 fits.0)) rest apart),
+        tt,
+      )
 
   fields_laid : (m d : ℕ) (fs : Parts) (vs : List Value) → All IsShapeName (part_names fs) → AreGood (part_nodes d fs) → FitParts m fs vs → AreLaid (field_pieces fs vs)
   fields_laid m d end [] names good fits = laid_mark false curly_close [] refl tt
@@ -134,10 +136,12 @@ mutual
   more_fields_laid m d (part name f fs) [] names good fits = absurd fits
   more_fields_laid m d (part name f fs) (v ∷ vs) names good fits =
       let both = good_part d name f fs good in
-      let (rest, apart) = more_fields_laid m d fs vs (All-tail IsShapeName name (part_names fs) names) both.1 fits.1 in
-      (laid_mark false semicolon (after_blank (labelled name (value_pieces f v)) ++ more_field_pieces fs vs) refl
-      (laid_join (after_blank (labelled name (value_pieces f v))) (more_field_pieces fs vs)
-      (laid_blank (labelled name (value_pieces f v)) (labelled_laid name (value_pieces f v) (All-head IsShapeName name (part_names fs) names) (laid_at m d f v both.0 fits.0))) rest apart), tt)
+      let (rest, apart) = more_fields_laid m d fs vs (All-tail IsShapeName name (part_names fs) names) both.1 fits.1 in (
+        laid_mark false semicolon (after_blank (labelled name (value_pieces f v)) ++ more_field_pieces fs vs) refl
+            (laid_join (after_blank (labelled name (value_pieces f v))) (more_field_pieces fs vs)
+            (laid_blank (labelled name (value_pieces f v)) (labelled_laid name (value_pieces f v) (All-head IsShapeName name (part_names fs) names) (laid_at m d f v both.0 fits.0))) rest apart),
+        tt,
+      )
 
   case_laid : (m d : ℕ) (cs : Cases) (place : ℕ) (vs : List Value) → AreGood (case_nodes d cs) → FitCase m cs place vs
       → AreLaid (argument_pieces_at cs place vs) × IsApart (argument_pieces_at cs place vs)
@@ -151,9 +155,11 @@ mutual
   arguments_laid m d (part name f fs) [] good fits = absurd fits
   arguments_laid m d (part name f fs) (v ∷ vs) good fits =
       let both = good_part d name f fs good in
-      let (rest, apart) = more_parts_laid m d fs vs both.1 fits.1 in
-      (laid_mark false round_open (value_pieces f v ++ more_part_pieces fs vs) refl
-      (laid_join (value_pieces f v) (more_part_pieces fs vs) (laid_at m d f v both.0 fits.0) rest apart), tt)
+      let (rest, apart) = more_parts_laid m d fs vs both.1 fits.1 in (
+        laid_mark false round_open (value_pieces f v ++ more_part_pieces fs vs) refl
+            (laid_join (value_pieces f v) (more_part_pieces fs vs) (laid_at m d f v both.0 fits.0) rest apart),
+        tt,
+      )
 
 -- each printed token has bytes, and the next does not go on it
 pub value_laid : (m : ℕ) (f : Form) (v : Value) → IsGood f → Fits m f v → AreLaid (value_pieces f v)

@@ -168,9 +168,9 @@ tuple_printed es d k good le =
     let some : 2 ≤ length ss = omega (arith, two, length-map (map form_of ss) unnamed, length-map ss form_of) in
     let inner = good_tuple d (parts (map form_of ss)) here in (
       subst (λ x. PartText k d (shp.Tuple ss) (tokens_of (as_part x))) (sym (printed_Tuple ss))
-      (base_alone k d (shp.Tuple ss) (tokens_of (as_part (true, factors (map shape_printed ss)))) low
-      (subst (λ i. IsBase i (shp.Tuple ss) (tokens_of (as_part (true, factors (map shape_printed ss))))) (sym is_k)
-      (in_brackets j (shp.Tuple ss) (factors (map shape_printed ss)) (tuple_product (d + 1) j es some inner enough)))),
+          (base_alone k d (shp.Tuple ss) (tokens_of (as_part (true, factors (map shape_printed ss)))) low
+          (subst (λ i. IsBase i (shp.Tuple ss) (tokens_of (as_part (true, factors (map shape_printed ss))))) (sym is_k)
+          (in_brackets j (shp.Tuple ss) (factors (map shape_printed ss)) (tuple_product (d + 1) j es some inner enough)))),
       subst (λ x. IsProduct (IsBase k) (shp.Tuple ss) (tokens_of x.1)) (sym (printed_Tuple ss)) (tuple_product (d + 1) k es some inner (omega arith)),
     )
 

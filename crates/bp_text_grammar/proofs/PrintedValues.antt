@@ -140,9 +140,14 @@ list_of_printed L w F each (v ∷ vs) all =
 -- a field, and what stands after it
 labelled_printed : (name : List ℕ) (M : List Value → List Token → Type 0) (vs : List Value) (ps qs : List Piece) → M vs (tokens_of (ps ++ qs))
     → Then (Label name) (λ u. M) vs (tokens_of (labelled name ps ++ qs))
-labelled_printed name M vs ps qs l =
-    (tt, Word name ∷ Mark equals ∷ [], tokens_of (ps ++ qs), ap (λ ts. Word name ∷ Mark equals ∷ ts) (tokens_after_blank ps qs ∙ sym (tokens_join ps qs)),
-    (tt, Word name ∷ [], Mark equals ∷ [], refl, word_text name, mark_text equals), l)
+labelled_printed name M vs ps qs l = (
+  tt,
+  Word name ∷ Mark equals ∷ [],
+  tokens_of (ps ++ qs),
+  ap (λ ts. Word name ∷ Mark equals ∷ ts) (tokens_after_blank ps qs ∙ sym (tokens_join ps qs)),
+  (tt, Word name ∷ [], Mark equals ∷ [], refl, word_text name, mark_text equals),
+  l,
+)
 
 -- the name of a case, and its arguments
 chosen : (cs : Cases) (place : ℕ) (vs : List Value) (ts : List Token) → IsDistinct (case_names cs) → place < case_count cs → AreCaseTokens cs place vs ts
@@ -164,8 +169,14 @@ mutual
   value_printed m text v is (t, same, le) = rw (same, out_text t) (Text t, refl, refl)
   value_printed m (opt f) v is (inl same) = rw (same, out_absent) (inl (Word (codes "none"), refl, word_same (codes "none") val.Absent))
   value_printed m (opt f) v is (inr (x, same, fits)) =
-      rw (same, out_present x) (inr (tt, Word (codes "some") ∷ [], tokens_of (value_pieces f x), ap (λ ts. Word (codes "some") ∷ ts) (tokens_blank (value_pieces f x)),
-      word_text (codes "some"), (x, refl, value_printed m f x is fits)))
+      rw (same, out_present x) (inr (
+        tt,
+        Word (codes "some") ∷ [],
+        tokens_of (value_pieces f x),
+        ap (λ ts. Word (codes "some") ∷ ts) (tokens_blank (value_pieces f x)),
+        word_text (codes "some"),
+        (x, refl, value_printed m f x is fits),
+      ))
   value_printed m (listed f) v is (vs, same, (le, all)) =
       rw (same, out_items vs) (marked square_open (Mapped val.Items (Items (IsValueTokens f))) (val.Items vs) _ (tokens_of (list_pieces (tight (Mark semicolon)) square_close (value_pieces f) vs)) refl
       (vs, refl, list_of_printed (IsValueTokens f) (value_pieces f) (Fits m f) (λ x fits. value_printed m f x is fits) vs all))

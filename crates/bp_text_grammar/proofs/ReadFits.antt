@@ -104,7 +104,7 @@ module _ (m : ℕ) where
   sexp_fits (suc (suc d)) x ts (inl (u, t, us, cut, mark, (ss, is, l))) short =
       let more = (cut_short ts t us cut short).1 in
       let (few, all) = until_fits (IsSexpTokens (suc d)) (FitsSexp m (suc d)) (λ y ys k s. sexp_fits (suc d) y ys k s)
-          (λ y ys k. begins_some (sexp_begins round_close refl (suc d)) y ys k) (is_mark round_close) ss us l more in
+      (λ y ys k. begins_some (sexp_begins round_close refl (suc d)) y ys k) (is_mark round_close) ss us l more in
       let le : length us ≤ m = more.0 in
       inr (ss, is, (omega arith, all))
 

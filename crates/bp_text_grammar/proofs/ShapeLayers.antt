@@ -80,7 +80,7 @@ module _ (P : Shape → Type 0) (OfCase : Case → Type 0) (OfField : Field → 
   Proved {A = A} Q = (a : A) × Q a
 
   pub by_layers : ((y : Shape-F (Proved P) (Proved OfCase) (Proved OfField) (Proved OfPoly))
-          → P (roll-Shape (map-Shape (Proved P) (Proved OfCase) (Proved OfField) (Proved OfPoly) Shape Case Field PolyCase (λ e. e.0) (λ e. e.0) (λ e. e.0) (λ e. e.0) y)))
+      → P (roll-Shape (map-Shape (Proved P) (Proved OfCase) (Proved OfField) (Proved OfPoly) Shape Case Field PolyCase (λ e. e.0) (λ e. e.0) (λ e. e.0) (λ e. e.0) y)))
       → ((name : List ℕ) (args : List (Proved P)) → OfCase (record { name = name; args = map (λ e. e.0) args }))
       → ((name : List ℕ) (e : Proved P) → OfField (record { name = name; shape = e.0 }))
       → ((name : List ℕ) (e : Option (Proved P)) → OfPoly (record { name = name; arg = option_map (λ e. e.0) e }))
