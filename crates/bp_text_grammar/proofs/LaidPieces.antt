@@ -3,27 +3,28 @@ use Rattle.std.proofs.Common.{◌≡◌, refl, Bool, true, false, ◌&&◌, ◌|
 use lib.Signed.{mag}
 use Rattle.std.specs.List.{All}
 use Rattle.std.proofs.lemmas.List.Elements.{All-nil, All-cons, All-head, All-tail}
+use Rattle.readers.specs.Reader.{Each}
 use Rattle.bp_value.specs.Names.{IsShapeName, IsNameStart, IsNameByte}
 use Rattle.bp_value.specs.Fits.{InRange}
 use Rattle.bp_value.proofs.Fitted.{range_is}
-use Rattle.bp_text_grammar.specs.Tokens.{Word, Mark}
-use Rattle.bp_text_grammar.specs.PrintedPieces.{Piece, after_blank, more_pieces, list_pieces, marks, among, IsApart, AreLaid}
+use Rattle.bp_text_grammar.specs.Tokens.{Token, Word, Number, Big, Text, Char, Mark, Wrong, OpenText, OpenChar}
+use Rattle.bp_text_grammar.specs.PrintedPieces.{Piece, after_blank, tokens_of, more_pieces, list_pieces, marks, among, IsWritten, IsApart, AreLaid}
 
 -- ---- put together
 
-pub laid_join : (ps qs : List Piece) → AreLaid ps → AreLaid qs → IsApart qs → AreLaid (ps ++ qs)
-laid_join [] qs first second apart = second
-laid_join (p ∷ []) qs first second apart = (first.0, λ run. apart, second)
-laid_join (p ∷ q ∷ ps) qs first second apart = (first.0, λ run. same q (first.1 run), laid_join (q ∷ ps) qs first.2 second apart)
+pub laid_join : (Q : Token → Type 0) (ps qs : List Piece) → AreLaid Q ps → AreLaid Q qs → IsApart qs → AreLaid Q (ps ++ qs)
+laid_join Q [] qs first second apart = second
+laid_join Q (p ∷ []) qs first second apart = (first.0, λ run. apart, second)
+laid_join Q (p ∷ q ∷ ps) qs first second apart = (first.0, λ run. same q (first.1 run), laid_join Q (q ∷ ps) qs first.2 second apart)
   where
     same : (q : Piece) → IsApart (q ∷ ps) → IsApart (q ∷ ps ++ qs)
     same (true, t) a = tt
     same (false, Mark m) a = tt
     same (false, _) a = absurd a
 
-pub laid_blank : (ps : List Piece) → AreLaid ps → AreLaid (after_blank ps)
-laid_blank [] laid = tt
-laid_blank (p ∷ ps) laid = laid
+pub laid_blank : (Q : Token → Type 0) (ps : List Piece) → AreLaid Q ps → AreLaid Q (after_blank ps)
+laid_blank Q [] laid = tt
+laid_blank Q (p ∷ ps) laid = laid
 
 pub apart_blank : (ps qs : List Piece) → IsApart qs → IsApart (after_blank ps ++ qs)
 apart_blank [] qs apart = apart
@@ -33,21 +34,37 @@ pub apart_after : (ps : List Piece) → IsApart (after_blank ps)
 apart_after [] = tt
 apart_after (p ∷ ps) = tt
 
-pub laid_mark : (b : Bool) (m : ℕ) (ps : List Piece) → among m marks ≡ true → AreLaid ps → AreLaid ((b, Mark m) ∷ ps)
-laid_mark b m ps is laid = (is, λ run. absurd run, laid)
+pub laid_mark : (Q : Token → Type 0) (b : Bool) (m : ℕ) (ps : List Piece) → among m marks ≡ true → AreLaid Q ps → AreLaid Q ((b, Mark m) ∷ ps)
+laid_mark Q b m ps is laid = (is, λ run. absurd run, laid)
 
-pub laid_word : (b : Bool) (w : List ℕ) (ps : List Piece) → IsShapeName w → IsApart ps → AreLaid ps → AreLaid ((b, Word w) ∷ ps)
-laid_word b w ps is apart laid = (is, λ run. apart, laid)
+pub laid_word : (Q : Token → Type 0) (b : Bool) (w : List ℕ) (ps : List Piece) → IsShapeName w → IsApart ps → AreLaid Q ps → AreLaid Q ((b, Word w) ∷ ps)
+laid_word Q b w ps is apart laid = (is, λ run. apart, laid)
+
+-- what holds of each token may be wanted of the texts and chars in quotes
+pub laid_narrow : (V Q : Token → Type 0) (ps : List Piece) → AreLaid V ps → Each Q (tokens_of ps) → AreLaid Q ps
+laid_narrow V Q [] laid each = tt
+laid_narrow V Q (p ∷ ps) laid each = (narrow p.1 laid.0 each.0, laid.1, laid_narrow V Q ps laid.2 each.1)
+  where
+    narrow : (t : Token) → IsWritten V t → Q t → IsWritten Q t
+    narrow (Word w) is q = is
+    narrow (Number n) is q = is
+    narrow Big is q = is
+    narrow (Text w) is q = q
+    narrow (Char b) is q = q
+    narrow (Mark m) is q = is
+    narrow Wrong is q = is
+    narrow OpenText is q = is
+    narrow OpenChar is q = is
 
 -- ---- lists
 
-pub more_laid : {A : Type 0} (sep close : ℕ) (gap : Bool) (w : A → List Piece) → among sep marks ≡ true → among close marks ≡ true
-    → (vs : List A) → All (λ v. AreLaid (w v)) vs → AreLaid (more_pieces (gap, Mark sep) close w vs) × IsApart (more_pieces (gap, Mark sep) close w vs)
-more_laid sep close gap w is_sep is_close [] all = (laid_mark false close [] is_close tt, tt)
-more_laid {A = A} sep close gap w is_sep is_close (v ∷ vs) all =
-    let (rest, apart) = more_laid sep close gap w is_sep is_close vs (All-tail (λ v. AreLaid (w v)) v vs all) in (
-      laid_mark gap sep (after_blank (w v) ++ more_pieces (gap, Mark sep) close w vs) is_sep
-          (laid_join (after_blank (w v)) (more_pieces (gap, Mark sep) close w vs) (laid_blank (w v) (All-head (λ v. AreLaid (w v)) v vs all)) rest apart),
+pub more_laid : (Q : Token → Type 0) {A : Type 0} (sep close : ℕ) (gap : Bool) (w : A → List Piece) → among sep marks ≡ true → among close marks ≡ true
+    → (vs : List A) → All (λ v. AreLaid Q (w v)) vs → AreLaid Q (more_pieces (gap, Mark sep) close w vs) × IsApart (more_pieces (gap, Mark sep) close w vs)
+more_laid Q sep close gap w is_sep is_close [] all = (laid_mark Q false close [] is_close tt, tt)
+more_laid Q {A = A} sep close gap w is_sep is_close (v ∷ vs) all =
+    let (rest, apart) = more_laid Q sep close gap w is_sep is_close vs (All-tail (λ v. AreLaid Q (w v)) v vs all) in (
+      laid_mark Q gap sep (after_blank (w v) ++ more_pieces (gap, Mark sep) close w vs) is_sep
+          (laid_join Q (after_blank (w v)) (more_pieces (gap, Mark sep) close w vs) (laid_blank Q (w v) (All-head (λ v. AreLaid Q (w v)) v vs all)) rest apart),
       either gap,
     )
   where
@@ -55,12 +72,12 @@ more_laid {A = A} sep close gap w is_sep is_close (v ∷ vs) all =
     either true = tt
     either false = tt
 
-pub list_laid : {A : Type 0} (sep close : ℕ) (gap : Bool) (w : A → List Piece) → among sep marks ≡ true → among close marks ≡ true
-    → (vs : List A) → All (λ v. AreLaid (w v)) vs → AreLaid (list_pieces (gap, Mark sep) close w vs)
-list_laid sep close gap w is_sep is_close [] all = laid_mark false close [] is_close tt
-list_laid sep close gap w is_sep is_close (v ∷ vs) all =
-    let (rest, apart) = more_laid sep close gap w is_sep is_close vs (All-tail (λ v. AreLaid (w v)) v vs all) in
-    laid_join (w v) (more_pieces (gap, Mark sep) close w vs) (All-head (λ v. AreLaid (w v)) v vs all) rest apart
+pub list_laid : (Q : Token → Type 0) {A : Type 0} (sep close : ℕ) (gap : Bool) (w : A → List Piece) → among sep marks ≡ true → among close marks ≡ true
+    → (vs : List A) → All (λ v. AreLaid Q (w v)) vs → AreLaid Q (list_pieces (gap, Mark sep) close w vs)
+list_laid Q sep close gap w is_sep is_close [] all = laid_mark Q false close [] is_close tt
+list_laid Q sep close gap w is_sep is_close (v ∷ vs) all =
+    let (rest, apart) = more_laid Q sep close gap w is_sep is_close vs (All-tail (λ v. AreLaid Q (w v)) v vs all) in
+    laid_join Q (w v) (more_pieces (gap, Mark sep) close w vs) (All-head (λ v. AreLaid Q (w v)) v vs all) rest apart
 
 -- ---- words of the grammars
 

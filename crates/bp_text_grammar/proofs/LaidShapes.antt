@@ -3,6 +3,7 @@ use Rattle.std.proofs.Common.{◌≡◌, refl, sym, subst, Option, Some, None, B
 use Rattle.std.specs.Option.{option_map}
 use Rattle.std.specs.List.{All}
 use Rattle.std.proofs.lemmas.List.Elements.{All-nil, All-cons, All-head, All-tail}
+use Rattle.readers.specs.Reader.{Never}
 use Rattle.bp_value.specs.declared.shape.Shape.{Shape}
 use Rattle.bp_value.specs.declared.shape.Shape.TheFolds.{map-Shape}
 use Rattle.bp_value.specs.declared.shape.Shape.TheViews.{roll-Shape}
@@ -26,58 +27,58 @@ use Rattle.bp_text_grammar.proofs.ShapeLayers.{case_printed, field_printed, poly
 
 -- ---- parts
 
-part_laid : (p : Printed) → AreLaid p.1 → AreLaid (as_part p)
+part_laid : (p : Printed) → AreLaid Never p.1 → AreLaid Never (as_part p)
 part_laid p laid = go p.0
   where
-    go : (b : Bool) → AreLaid (if b then tight (Mark round_open) ∷ p.1 ++ tight (Mark round_close) ∷ [] else p.1)
+    go : (b : Bool) → AreLaid Never (if b then tight (Mark round_open) ∷ p.1 ++ tight (Mark round_close) ∷ [] else p.1)
     go true =
-        laid_mark false round_open (p.1 ++ tight (Mark round_close) ∷ []) refl
-        (laid_join p.1 (tight (Mark round_close) ∷ []) laid (laid_mark false round_close [] refl tt) tt)
+        laid_mark Never false round_open (p.1 ++ tight (Mark round_close) ∷ []) refl
+        (laid_join Never p.1 (tight (Mark round_close) ∷ []) laid (laid_mark Never false round_close [] refl tt) tt)
     go false = laid
 
 -- a word after a part
-post_laid : (p : Printed) (w : List ℕ) → IsShapeName w → AreLaid p.1 → AreLaid (as_part p ++ spaced (Word w) ∷ [])
-post_laid p w is laid = laid_join (as_part p) (spaced (Word w) ∷ []) (part_laid p laid) (laid_word true w [] is tt tt) tt
+post_laid : (p : Printed) (w : List ℕ) → IsShapeName w → AreLaid Never p.1 → AreLaid Never (as_part p ++ spaced (Word w) ∷ [])
+post_laid p w is laid = laid_join Never (as_part p) (spaced (Word w) ∷ []) (part_laid p laid) (laid_word Never true w [] is tt tt) tt
 
-more_factors_laid : (ps : List Printed) → All (λ p. AreLaid p.1) ps → AreLaid (more_factors ps) × IsApart (more_factors ps)
+more_factors_laid : (ps : List Printed) → All (λ p. AreLaid Never p.1) ps → AreLaid Never (more_factors ps) × IsApart (more_factors ps)
 more_factors_laid [] all = (tt, tt)
 more_factors_laid (p ∷ ps) all =
-    let (rest, apart) = more_factors_laid ps (All-tail (λ p. AreLaid p.1) p ps all) in (
-      laid_mark true star (after_blank (as_part p) ++ more_factors ps) refl
-          (laid_join (after_blank (as_part p)) (more_factors ps) (laid_blank (as_part p) (part_laid p (All-head (λ p. AreLaid p.1) p ps all))) rest apart),
+    let (rest, apart) = more_factors_laid ps (All-tail (λ p. AreLaid Never p.1) p ps all) in (
+      laid_mark Never true star (after_blank (as_part p) ++ more_factors ps) refl
+          (laid_join Never (after_blank (as_part p)) (more_factors ps) (laid_blank Never (as_part p) (part_laid p (All-head (λ p. AreLaid Never p.1) p ps all))) rest apart),
       tt,
     )
 
-factors_laid : (ps : List Printed) → All (λ p. AreLaid p.1) ps → AreLaid (factors ps)
+factors_laid : (ps : List Printed) → All (λ p. AreLaid Never p.1) ps → AreLaid Never (factors ps)
 factors_laid [] all = tt
 factors_laid (p ∷ ps) all =
-    let (rest, apart) = more_factors_laid ps (All-tail (λ p. AreLaid p.1) p ps all) in
-    laid_join (as_part p) (more_factors ps) (part_laid p (All-head (λ p. AreLaid p.1) p ps all)) rest apart
+    let (rest, apart) = more_factors_laid ps (All-tail (λ p. AreLaid Never p.1) p ps all) in
+    laid_join Never (as_part p) (more_factors ps) (part_laid p (All-head (λ p. AreLaid Never p.1) p ps all)) rest apart
 
-of_laid : (ps : List Piece) → AreLaid ps → AreLaid (after_of ps)
-of_laid ps laid = laid_word true (codes "of") (after_blank ps) (plain_name (codes "of") refl) (apart_after ps) (laid_blank ps laid)
+of_laid : (ps : List Piece) → AreLaid Never ps → AreLaid Never (after_of ps)
+of_laid ps laid = laid_word Never true (codes "of") (after_blank ps) (plain_name (codes "of") refl) (apart_after ps) (laid_blank Never ps laid)
 
-record_laid : (fs : List (List Piece)) → All AreLaid fs → AreLaid (record_pieces fs)
+record_laid : (fs : List (List Piece)) → All (AreLaid Never) fs → AreLaid Never (record_pieces fs)
 record_laid fs all =
-    laid_mark false curly_open (list_pieces (tight (Mark semicolon)) curly_close (λ f. f) fs) refl (list_laid semicolon curly_close false (λ f. f) refl refl fs all)
+    laid_mark Never false curly_open (list_pieces (tight (Mark semicolon)) curly_close (λ f. f) fs) refl (list_laid Never semicolon curly_close false (λ f. f) refl refl fs all)
 
-variant_laid : (cs : List (List Piece)) → All AreLaid cs → AreLaid (variant_pieces cs)
+variant_laid : (cs : List (List Piece)) → All (AreLaid Never) cs → AreLaid Never (variant_pieces cs)
 variant_laid cs all =
-    laid_mark false square_open (list_pieces (spaced (Mark bar)) square_close (λ c. c) cs) refl (list_laid bar square_close true (λ c. c) refl refl cs all)
+    laid_mark Never false square_open (list_pieces (spaced (Mark bar)) square_close (λ c. c) cs) refl (list_laid Never bar square_close true (λ c. c) refl refl cs all)
 
 -- ---- what holds of each shape and member
 
 abbrev IsLaid : Shape → Type 0
-IsLaid s = (d : ℕ) → AreGood (nodes d (form_of s)) → AreLaid (shape_printed s).1
+IsLaid s = (d : ℕ) → AreGood (nodes d (form_of s)) → AreLaid Never (shape_printed s).1
 
 abbrev FieldIsLaid : Field → Type 0
-FieldIsLaid f = (d : ℕ) → IsShapeName f.name → AreGood (nodes d (form_of f.shape)) → AreLaid (field_printed f)
+FieldIsLaid f = (d : ℕ) → IsShapeName f.name → AreGood (nodes d (form_of f.shape)) → AreLaid Never (field_printed f)
 
 abbrev CaseIsLaid : Case → Type 0
-CaseIsLaid c = (d : ℕ) → IsShapeName c.name → AreGood (part_nodes d (parts (map form_of c.args))) → AreLaid (case_printed c)
+CaseIsLaid c = (d : ℕ) → IsShapeName c.name → AreGood (part_nodes d (parts (map form_of c.args))) → AreLaid Never (case_printed c)
 
 abbrev PolyIsLaid : PolyCase → Type 0
-PolyIsLaid c = (d : ℕ) → IsShapeName c.name → AreGood (part_nodes d (argument (option_map form_of c.arg))) → AreLaid (poly_printed c)
+PolyIsLaid c = (d : ℕ) → IsShapeName c.name → AreGood (part_nodes d (argument (option_map form_of c.arg))) → AreLaid Never (poly_printed c)
 
 abbrev LaidShape : Type 0
 LaidShape = (s : Shape) × IsLaid s
@@ -91,75 +92,75 @@ LaidCase = (c : Case) × CaseIsLaid c
 abbrev LaidPoly : Type 0
 LaidPoly = (c : PolyCase) × PolyIsLaid c
 
-by_printed : (s : Shape) (p : Printed) → shape_printed s ≡ p → ((d : ℕ) → AreGood (nodes d (form_of s)) → AreLaid p.1) → IsLaid s
-by_printed s p e laid d good = subst (λ x. AreLaid x.1) (sym e) (laid d good)
+by_printed : (s : Shape) (p : Printed) → shape_printed s ≡ p → ((d : ℕ) → AreGood (nodes d (form_of s)) → AreLaid Never p.1) → IsLaid s
+by_printed s p e laid d good = subst (λ x. AreLaid Never x.1) (sym e) (laid d good)
 
 -- ---- lists of children
 
-parts_all : (d : ℕ) (es : List LaidShape) → AreGood (part_nodes d (parts (map form_of (map (λ e. e.0) es)))) → All (λ p. AreLaid p.1) (map shape_printed (map (λ e. e.0) es))
-parts_all d [] good = All-nil (λ p. AreLaid p.1)
+parts_all : (d : ℕ) (es : List LaidShape) → AreGood (part_nodes d (parts (map form_of (map (λ e. e.0) es)))) → All (λ p. AreLaid Never p.1) (map shape_printed (map (λ e. e.0) es))
+parts_all d [] good = All-nil (λ p. AreLaid Never p.1)
 parts_all d (e ∷ es) good =
     let both = good_part d [] (form_of e.0) (parts (map form_of (map (λ e. e.0) es))) good in
-    All-cons (λ p. AreLaid p.1) (shape_printed e.0) (map shape_printed (map (λ e. e.0) es)) (e.1 d both.0) (parts_all d es both.1)
+    All-cons (λ p. AreLaid Never p.1) (shape_printed e.0) (map shape_printed (map (λ e. e.0) es)) (e.1 d both.0) (parts_all d es both.1)
 
 fields_all : (d : ℕ) (es : List LaidField) → All IsShapeName (part_names (named_parts (map field_form (map (λ e. e.0) es))))
-    → AreGood (part_nodes d (named_parts (map field_form (map (λ e. e.0) es)))) → All AreLaid (map field_printed (map (λ e. e.0) es))
-fields_all d [] names good = All-nil AreLaid
+    → AreGood (part_nodes d (named_parts (map field_form (map (λ e. e.0) es)))) → All (AreLaid Never) (map field_printed (map (λ e. e.0) es))
+fields_all d [] names good = All-nil (AreLaid Never)
 fields_all d (e ∷ es) names good =
     let rest = named_parts (map field_form (map (λ e. e.0) es)) in
     let both = good_part d e.0.name (form_of e.0.shape) rest good in
-    All-cons AreLaid (field_printed e.0) (map field_printed (map (λ e. e.0) es))
+    All-cons (AreLaid Never) (field_printed e.0) (map field_printed (map (λ e. e.0) es))
     (e.1 d (All-head IsShapeName e.0.name (part_names rest) names) both.0) (fields_all d es (All-tail IsShapeName e.0.name (part_names rest) names) both.1)
 
 cases_all : (d : ℕ) (es : List LaidCase) → All IsShapeName (case_names (cases (map case_form (map (λ e. e.0) es))))
-    → AreGood (case_nodes d (cases (map case_form (map (λ e. e.0) es)))) → All AreLaid (map case_printed (map (λ e. e.0) es))
-cases_all d [] names good = All-nil AreLaid
+    → AreGood (case_nodes d (cases (map case_form (map (λ e. e.0) es)))) → All (AreLaid Never) (map case_printed (map (λ e. e.0) es))
+cases_all d [] names good = All-nil (AreLaid Never)
 cases_all d (e ∷ es) names good =
     let rest = cases (map case_form (map (λ e. e.0) es)) in
     let both = good_case d e.0.name (case_form e.0).1 rest good in
-    All-cons AreLaid (case_printed e.0) (map case_printed (map (λ e. e.0) es))
+    All-cons (AreLaid Never) (case_printed e.0) (map case_printed (map (λ e. e.0) es))
     (e.1 d (All-head IsShapeName e.0.name (case_names rest) names) both.0) (cases_all d es (All-tail IsShapeName e.0.name (case_names rest) names) both.1)
 
 polys_all : (d : ℕ) (es : List LaidPoly) → All IsShapeName (case_names (cases (map poly_form (map (λ e. e.0) es))))
-    → AreGood (case_nodes d (cases (map poly_form (map (λ e. e.0) es)))) → All AreLaid (map poly_printed (map (λ e. e.0) es))
-polys_all d [] names good = All-nil AreLaid
+    → AreGood (case_nodes d (cases (map poly_form (map (λ e. e.0) es)))) → All (AreLaid Never) (map poly_printed (map (λ e. e.0) es))
+polys_all d [] names good = All-nil (AreLaid Never)
 polys_all d (e ∷ es) names good =
     let rest = cases (map poly_form (map (λ e. e.0) es)) in
     let both = good_case d e.0.name (poly_form e.0).1 rest good in
-    All-cons AreLaid (poly_printed e.0) (map poly_printed (map (λ e. e.0) es))
+    All-cons (AreLaid Never) (poly_printed e.0) (map poly_printed (map (λ e. e.0) es))
     (e.1 d (All-head IsShapeName e.0.name (case_names rest) names) both.0) (polys_all d es (All-tail IsShapeName e.0.name (case_names rest) names) both.1)
 
 -- ---- members
 
 field_is_laid : (n : List ℕ) (e : LaidShape) → FieldIsLaid (record { name = n; shape = e.0 })
 field_is_laid n e d is good =
-    subst AreLaid (sym (field_printed_is (record { name = n; shape = e.0 })))
-    (laid_word false n (tight (Mark colon) ∷ after_blank (shape_printed e.0).1) is tt
-    (laid_mark false colon (after_blank (shape_printed e.0).1) refl (laid_blank (shape_printed e.0).1 (e.1 d good))))
+    subst (AreLaid Never) (sym (field_printed_is (record { name = n; shape = e.0 })))
+    (laid_word Never false n (tight (Mark colon) ∷ after_blank (shape_printed e.0).1) is tt
+    (laid_mark Never false colon (after_blank (shape_printed e.0).1) refl (laid_blank Never (shape_printed e.0).1 (e.1 d good))))
 
 case_is_laid : (n : List ℕ) (es : List LaidShape) → CaseIsLaid (record { name = n; args = map (λ e. e.0) es })
-case_is_laid n es d is good = subst AreLaid (sym (case_printed_is (record { name = n; args = map (λ e. e.0) es }))) (some es good)
+case_is_laid n es d is good = subst (AreLaid Never) (sym (case_printed_is (record { name = n; args = map (λ e. e.0) es }))) (some es good)
   where
-    some : (es : List LaidShape) → AreGood (part_nodes d (parts (map form_of (map (λ e. e.0) es)))) → AreLaid (tight (Word n) ∷ of_arguments (map shape_printed (map (λ e. e.0) es)))
-    some [] good = laid_word false n [] is tt tt
+    some : (es : List LaidShape) → AreGood (part_nodes d (parts (map form_of (map (λ e. e.0) es)))) → AreLaid Never (tight (Word n) ∷ of_arguments (map shape_printed (map (λ e. e.0) es)))
+    some [] good = laid_word Never false n [] is tt tt
     some (e ∷ es) good =
-        laid_word false n (of_arguments (map shape_printed (map (λ e. e.0) (e ∷ es)))) is tt
+        laid_word Never false n (of_arguments (map shape_printed (map (λ e. e.0) (e ∷ es)))) is tt
         (of_laid (factors (map shape_printed (map (λ e. e.0) (e ∷ es)))) (factors_laid (map shape_printed (map (λ e. e.0) (e ∷ es))) (parts_all d (e ∷ es) good)))
 
 poly_is_laid : (n : List ℕ) (o : Option LaidShape) → PolyIsLaid (record { name = n; arg = option_map (λ e. e.0) o })
-poly_is_laid n o d is good = subst AreLaid (sym (poly_printed_is (record { name = n; arg = option_map (λ e. e.0) o }))) (some o good)
+poly_is_laid n o d is good = subst (AreLaid Never) (sym (poly_printed_is (record { name = n; arg = option_map (λ e. e.0) o }))) (some o good)
   where
     some : (o : Option LaidShape) → AreGood (part_nodes d (argument (option_map form_of (option_map (λ e. e.0) o))))
-        → AreLaid (tight (Mark backtick) ∷ tight (Word n) ∷ of_argument (option_map shape_printed (option_map (λ e. e.0) o)))
-    some None good = laid_mark false backtick (tight (Word n) ∷ []) refl (laid_word false n [] is tt tt)
+        → AreLaid Never (tight (Mark backtick) ∷ tight (Word n) ∷ of_argument (option_map shape_printed (option_map (λ e. e.0) o)))
+    some None good = laid_mark Never false backtick (tight (Word n) ∷ []) refl (laid_word Never false n [] is tt tt)
     some (Some e) good =
-        laid_mark false backtick (tight (Word n) ∷ after_of (shape_printed e.0).1) refl
-        (laid_word false n (after_of (shape_printed e.0).1) is tt (of_laid (shape_printed e.0).1 (e.1 d (good_part d [] (form_of e.0) (argument None) good).0)))
+        laid_mark Never false backtick (tight (Word n) ∷ after_of (shape_printed e.0).1) refl
+        (laid_word Never false n (after_of (shape_printed e.0).1) is tt (of_laid (shape_printed e.0).1 (e.1 d (good_part d [] (form_of e.0) (argument None) good).0)))
 
 -- ---- all shapes
 
 base_laid : (s : Shape) (w : List ℕ) → IsShapeName w → shape_printed s ≡ (false, tight (Word w) ∷ []) → IsLaid s
-base_laid s w is e = by_printed s (false, tight (Word w) ∷ []) e (λ d good. laid_word false w [] is tt tt)
+base_laid s w is e = by_printed s (false, tight (Word w) ∷ []) e (λ d good. laid_word Never false w [] is tt tt)
 
 layer_is_laid : (y : Shape-F LaidShape LaidCase LaidField LaidPoly)
     → IsLaid (roll-Shape (map-Shape LaidShape LaidCase LaidField LaidPoly Shape Case Field PolyCase (λ e. e.0) (λ e. e.0) (λ e. e.0) (λ e. e.0) y))
@@ -203,6 +204,6 @@ layer_is_laid (layer.Poly es) =
     (polys_all (d + 1) es (good_names d (poly (cases (map poly_form cs))) (good_node d (poly (cases (map poly_form cs))) here)) (good_poly d (cases (map poly_form cs)) here))))
 
 -- each printed token has bytes, and the next does not go on it
-pub shape_laid : (s : Shape) → IsGood (form_of s) → AreLaid (shape_pieces s)
+pub shape_laid : (s : Shape) → IsGood (form_of s) → AreLaid Never (shape_pieces s)
 unfolding shape_pieces
 shape_laid s good = by_layers IsLaid CaseIsLaid FieldIsLaid PolyIsLaid layer_is_laid case_is_laid field_is_laid poly_is_laid s 1 (good_root (form_of s) good)

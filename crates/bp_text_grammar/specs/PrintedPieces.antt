@@ -66,14 +66,14 @@ abbrev pub among : ℕ → List ℕ → Bool
 among m [] = false
 among m (n ∷ ns) = nat_eq m n || among m ns
 
--- a token that has bytes
-abbrev pub IsWritten : Token → Type 0
-IsWritten (Word w) = IsShapeName w
-IsWritten (Number n) = InRange 63 n
-IsWritten (Text t) = Unit {0}
-IsWritten (Char b) = Unit {0}
-IsWritten (Mark m) = among m marks ≡ true
-IsWritten _ = ⊥
+-- a token that has bytes; Q says which texts and chars in quotes may come
+abbrev pub IsWritten : (Token → Type 0) → Token → Type 0
+IsWritten Q (Word w) = IsShapeName w
+IsWritten Q (Number n) = InRange 63 n
+IsWritten Q (Text t) = Q (Text t)
+IsWritten Q (Char b) = Q (Char b)
+IsWritten Q (Mark m) = among m marks ≡ true
+IsWritten Q _ = ⊥
 
 -- a word or a number, which goes on with what may go on it
 abbrev pub IsRun : Token → Type 0
@@ -89,6 +89,6 @@ IsApart ((false, Mark m) ∷ ps) = Unit {0}
 IsApart _ = ⊥
 
 -- each token has bytes, and the next does not go on it
-abbrev pub AreLaid : List Piece → Type 0
-AreLaid [] = Unit {0}
-AreLaid (p ∷ ps) = IsWritten p.1 × (IsRun p.1 → IsApart ps) × AreLaid ps
+abbrev pub AreLaid : (Token → Type 0) → List Piece → Type 0
+AreLaid Q [] = Unit {0}
+AreLaid Q (p ∷ ps) = IsWritten Q p.1 × (IsRun p.1 → IsApart ps) × AreLaid Q ps
