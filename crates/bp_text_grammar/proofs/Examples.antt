@@ -169,8 +169,11 @@ bool_printed = ap shape_printed (sym shp.rolls-Bool) ∙ layer_printed layer.Boo
 text_printed : shape_printed shp.Text ≡ base (Word (codes "string"))
 text_printed = ap shape_printed (sym shp.rolls-Text) ∙ layer_printed layer.Text
 
--- the bytes of what is printed
-written : (s : Shape) (p : Printed) → shape_printed s ≡ p → shape_text_of s ≡ bytes_of (λ t. []) (λ b. []) (λ n. []) p.1
+-- the bytes of what is printed: nothing in quotes and no number stands there
+abbrev text_of_shape : Shape → List ℕ
+text_of_shape s = shape_text_of (λ t. []) (λ b. []) (λ n. []) s
+
+written : (s : Shape) (p : Printed) → shape_printed s ≡ p → text_of_shape s ≡ bytes_of (λ t. []) (λ b. []) (λ n. []) p.1
 unfolding shape_text_of shape_pieces
 written s p e = ap (λ x. bytes_of (λ t. []) (λ b. []) (λ n. []) x.1) e
 
@@ -180,7 +183,7 @@ pair = shp.Tuple (shp.Int ∷ shp.Bool ∷ [])
 pair_printed : shape_printed pair ≡ (true, factors (base (Word (codes "int")) ∷ base (Word (codes "bool")) ∷ []))
 pair_printed = printed_Tuple (shp.Int ∷ shp.Bool ∷ []) ∙ (λ i. (true, factors (int_printed i ∷ bool_printed i ∷ [])))
 
-option_shape_written : shape_text_of (shp.Opt pair) ≡ codes "(int * bool) option"
+option_shape_written : text_of_shape (shp.Opt pair) ≡ codes "(int * bool) option"
 option_shape_written = written (shp.Opt pair) _ (printed_Opt pair ∙ (λ i. (false, as_part (pair_printed i) ++ spaced (Word (codes "option")) ∷ [])))
 
 abbrev a_field : Field
@@ -189,7 +192,7 @@ a_field = record { name = codes "a"; shape = shp.Int }
 abbrev b_field : Field
 b_field = record { name = codes "b"; shape = shp.List shp.Text }
 
-record_written : shape_text_of (shp.Fields (a_field ∷ b_field ∷ [])) ≡ codes "{a: int; b: string list}"
+record_written : text_of_shape (shp.Fields (a_field ∷ b_field ∷ [])) ≡ codes "{a: int; b: string list}"
 record_written =
     written (shp.Fields (a_field ∷ b_field ∷ [])) _ (printed_Fields (a_field ∷ b_field ∷ [])
     ∙ ((λ i. (false, record_pieces (field_printed_is a_field i ∷ field_printed_is b_field i ∷ [])))
@@ -208,7 +211,7 @@ a_case = record { name = codes "A"; args = [] }
 abbrev b_case : Case
 b_case = record { name = codes "B"; args = shp.Int ∷ pair ∷ [] }
 
-variant_written : shape_text_of (shp.Sum (a_case ∷ b_case ∷ [])) ≡ codes "[A | B of int * (int * bool)]"
+variant_written : text_of_shape (shp.Sum (a_case ∷ b_case ∷ [])) ≡ codes "[A | B of int * (int * bool)]"
 variant_written =
     written (shp.Sum (a_case ∷ b_case ∷ [])) _ (printed_Sum (a_case ∷ b_case ∷ [])
     ∙ ((λ i. (false, variant_pieces (case_printed_is a_case i ∷ case_printed_is b_case i ∷ [])))
@@ -220,7 +223,7 @@ query = record { name = codes "Query"; arg = Some pair }
 abbrev abort : PolyCase
 abort = record { name = codes "Abort"; arg = None }
 
-poly_written : shape_text_of (shp.Poly (query ∷ abort ∷ [])) ≡ codes "[`Query of int * bool | `Abort]"
+poly_written : text_of_shape (shp.Poly (query ∷ abort ∷ [])) ≡ codes "[`Query of int * bool | `Abort]"
 poly_written =
     written (shp.Poly (query ∷ abort ∷ [])) _ (printed_Poly (query ∷ abort ∷ [])
     ∙ ((λ i. (false, variant_pieces (poly_printed_is query i ∷ poly_printed_is abort i ∷ [])))

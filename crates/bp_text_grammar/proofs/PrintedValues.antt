@@ -22,7 +22,7 @@ use Rattle.bp_value.proofs.Distinct.{distinct_tail}
 use Rattle.bp_value.proofs.Fitted.{range_is}
 use Rattle.bp_value.proofs.Layers.{out_absent, out_bool, out_char, out_num, out_text, out_sexp, out_present, out_items, out_parts, out_case}
 use Rattle.bp_text_grammar.specs.Tokens.{Token, Word, Number, Text, Char, Mark}
-use Rattle.bp_text_grammar.specs.Texts.{round_open, round_close, comma, semicolon, equals, square_open, square_close, backtick, curly_open, curly_close, same, is_mark, IsMark, Closed, Onto}
+use Rattle.bp_text_grammar.specs.Texts.{round_open, round_close, comma, semicolon, equals, square_open, square_close, backtick, curly_open, curly_close, same, is_mark, ThisMark, Closed, Onto}
 use Rattle.bp_text_grammar.specs.ValueTexts.{in_range, number_of, case_named, case_of, Items, Label, Inside, IsSexpTokens, IsValueTokens, ArePartTokens, AreMorePartTokens, AreFieldTokens, AreMoreFieldTokens, AreCaseTokens, AreArgumentTokens}
 use Rattle.bp_text_grammar.specs.PrintedPieces.{Piece, tight, after_blank, tokens_of, more_pieces, list_pieces}
 use Rattle.bp_text_grammar.specs.PrintedValues.{more_items, all_items, print_sexp_step, sexp_pieces, name_at, labelled, value_pieces, part_pieces, more_part_pieces, field_pieces, more_field_pieces, argument_pieces_at, argument_pieces, value_tokens}
@@ -33,7 +33,7 @@ use Rattle.bp_text_grammar.proofs.PieceTokens.{tokens_join, tokens_blank, tokens
 -- ---- parts
 
 -- a mark, and what is read after it
-marked : {A : Type 0} (m : ℕ) (M : A → List Token → Type 0) (a : A) (ts us : List Token) → ts ≡ Mark m ∷ us → M a us → Then (IsMark m) (λ u. M) a ts
+marked : {A : Type 0} (m : ℕ) (M : A → List Token → Type 0) (a : A) (ts us : List Token) → ts ≡ Mark m ∷ us → M a us → Then (ThisMark m) (λ u. M) a ts
 marked m M a ts us cut l = (tt, Mark m ∷ [], us, cut, mark_text m, l)
 
 closed : {A : Type 0} (m : ℕ) → Closed {A = A} m [] (Mark m ∷ [])
@@ -159,7 +159,7 @@ mutual
   unfolding Fits FitParts FitCase IsValueTokens ArePartTokens AreMorePartTokens AreFieldTokens AreMoreFieldTokens AreCaseTokens AreArgumentTokens value_pieces part_pieces more_part_pieces field_pieces more_field_pieces argument_pieces_at argument_pieces IsRead ArePartsRead AreCasesRead
 
   value_printed : (m : ℕ) (f : Form) (v : Value) → IsRead f → Fits m f v → IsValueTokens f v (tokens_of (value_pieces f v))
-  value_printed m unit v is fits = marked round_open (Mapped (λ x. val.Unit) (IsMark round_close)) v _ (Mark round_close ∷ []) refl (tt, fits, mark_text round_close)
+  value_printed m unit v is fits = marked round_open (Mapped (λ x. val.Unit) (ThisMark round_close)) v _ (Mark round_close ∷ []) refl (tt, fits, mark_text round_close)
   value_printed m bool v is (true, same, x) = rw (same, out_bool true) (Word (codes "true"), refl, refl)
   value_printed m bool v is (false, same, x) = rw (same, out_bool false) (Word (codes "false"), refl, refl)
   value_printed m char v is (b, same, x) = rw (same, out_char b) (Char b, refl, refl)

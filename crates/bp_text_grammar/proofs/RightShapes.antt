@@ -9,7 +9,7 @@ use Rattle.bp_value.specs.declared.shape.Shape.TheVariants as shp
 use Rattle.bp_value.specs.declared.shape.Field.{Field}
 use Rattle.bp_value.specs.declared.shape.PolyCase.{PolyCase}
 use Rattle.bp_text_grammar.specs.Tokens.{Token, Word, Mark}
-use Rattle.bp_text_grammar.specs.Texts.{Why, Float, BadText, round_open, round_close, star, colon, semicolon, square_open, square_close, backtick, curly_open, bar, curly_close, is_mark, IsMark, mark_at}
+use Rattle.bp_text_grammar.specs.Texts.{Why, Float, BadText, round_open, round_close, star, colon, semicolon, square_open, square_close, backtick, curly_open, bar, curly_close, is_mark, ThisMark, mark_at}
 use Rattle.bp_text_grammar.specs.ShapeTexts.{most_brackets, most_posts, name_of, base_of, is_float, is_star, is_post, is_of, ends_shape, ends_case, posted, tupled, no_arguments, IsPart, AreFactors, IsProduct, IsField, IsSumCase, IsPolyCase, AreSome, InRound, InCurly, InSquare, IsBase, IsShapeTokens, IsFloatFault, IsShapeFault, base_why, base_word_at, part_at, more_factors_at, factors_at, product_at, field_at, sum_case_at, poly_case_at, some_at, round_at, curly_at, square_at, base_at, shape_at, whole_shape_at}
 use Rattle.bp_text_grammar.proofs.Twins.{FloatWord, is_own, int_word, leaf_twins}
 use Rattle.bp_text_grammar.proofs.Told.{Reads, one_reads, mapped_reads, meeting_reads, branch_reads, run_reads, rest_reads, others_reads, maybe_reads, right_float, ended_reads, ended_front, front_ended}
@@ -78,7 +78,7 @@ base_word_reads = record {
 -- ---- lists up to a closing mark
 
 -- what begins with a mark may follow where the mark may
-mark_follows : (E : Token → Type 0) (m : ℕ) → E (Mark m) → (u : Unit {0}) (ts vs : List Token) → IsMark m u ts → Follows E (ts ++ vs)
+mark_follows : (E : Token → Type 0) (m : ℕ) → E (Mark m) → (u : Unit {0}) (ts vs : List Token) → ThisMark m u ts → Follows E (ts ++ vs)
 mark_follows E m may u ts vs (t, cut, e) = rw cut (rw (mark_is m t (when_is (is_mark m t) tt u e).0) may)
 
 module _ {A : Type 0} (sep close : ℕ) (apart : nat_eq sep close ≡ false) (E : Token → Type 0) (L : A → List Token → Type 0)
@@ -151,7 +151,7 @@ module _ (B : Shape → List Token → Type 0) (r : List Token → Outcome Token
 
   pub field_reads : Reads FloatWord (Is ends_shape) (IsField B) (field_at r)
   field_reads =
-      then_reads (Is ends_shape) (One name_of) (one name_of BadText) (λ n. Then (IsMark colon) (λ u. Mapped (λ s. record { name = n; shape = s }) (IsProduct B)))
+      then_reads (Is ends_shape) (One name_of) (one name_of BadText) (λ n. Then (ThisMark colon) (λ u. Mapped (λ s. record { name = n; shape = s }) (IsProduct B)))
       (λ n us. after (mark_at colon us) (λ u xs. mapped (λ s. record { name = n; shape = s }) (product_at r xs))) name_reads
       (λ n. after_mark_reads (Is ends_shape) colon (Mapped (λ s. record { name = n; shape = s }) (IsProduct B)) (λ xs. mapped (λ s. record { name = n; shape = s }) (product_at r xs))
       (mapped_reads (Is ends_shape) (λ s. record { name = n; shape = s }) (IsProduct B) (product_at r) product_reads) (product_named n))
@@ -163,7 +163,7 @@ module _ (B : Shape → List Token → Type 0) (r : List Token → Outcome Token
   pub field_text : HasText (IsField B)
   field_text =
       let (n, ts, l) = name_text in
-      then_text (One name_of) (λ n. Then (IsMark colon) (λ u. Mapped (λ s. record { name = n; shape = s }) (IsProduct B))) n ts l
+      then_text (One name_of) (λ n. Then (ThisMark colon) (λ u. Mapped (λ s. record { name = n; shape = s }) (IsProduct B))) n ts l
       (after_mark colon (Mapped (λ s. record { name = n; shape = s }) (IsProduct B)) (mapped_text (λ s. record { name = n; shape = s }) (IsProduct B) product_text))
 
   pub sum_case_reads : Reads FloatWord (Is ends_case) (IsSumCase B) (sum_case_at r)
@@ -208,13 +208,13 @@ module _ (B : Shape → List Token → Type 0) (r : List Token → Outcome Token
 
   pub round_reads : Reads FloatWord Any (InRound B) (round_at r)
   round_reads =
-      after_mark_reads Any round_open (Then (IsProduct B) (λ p. Mapped (λ x. p) (IsMark round_close))) (λ us. after (product_at r us) (λ p xs. mapped (λ x. p) (mark_at round_close xs)))
-      (meeting_reads (Is ends_shape) Any (IsProduct B) (product_at r) (λ p. Mapped (λ x. p) (IsMark round_close)) (λ p xs. mapped (λ x. p) (mark_at round_close xs)) product_reads
-      (λ p t l. mapped_reads Any (λ x. p) (IsMark round_close) (mark_at round_close) (mark_reads round_close))
+      after_mark_reads Any round_open (Then (IsProduct B) (λ p. Mapped (λ x. p) (ThisMark round_close))) (λ us. after (product_at r us) (λ p xs. mapped (λ x. p) (mark_at round_close xs)))
+      (meeting_reads (Is ends_shape) Any (IsProduct B) (product_at r) (λ p. Mapped (λ x. p) (ThisMark round_close)) (λ p xs. mapped (λ x. p) (mark_at round_close xs)) product_reads
+      (λ p t l. mapped_reads Any (λ x. p) (ThisMark round_close) (mark_at round_close) (mark_reads round_close))
       (λ p t l. (p, Mark round_close ∷ [], (tt, refl, mark_text round_close)))
       (λ p s u x m f. let (y, e, l) = m in mark_follows (Is ends_shape) round_close refl y u x l))
       (let (p, ts, l) = product_text in
-      then_text (IsProduct B) (λ p. Mapped (λ x. p) (IsMark round_close)) p ts l (p, Mark round_close ∷ [], (tt, refl, mark_text round_close)))
+      then_text (IsProduct B) (λ p. Mapped (λ x. p) (ThisMark round_close)) p ts l (p, Mark round_close ∷ [], (tt, refl, mark_text round_close)))
 
   pub curly_reads : Reads FloatWord Any (InCurly B) (curly_at r)
   curly_reads =
@@ -236,7 +236,7 @@ module _ (B : Shape → List Token → Type 0) (r : List Token → Outcome Token
       (some_reads bar square_close refl (Is ends_case) (IsSumCase B) (sum_case_at r) sum_case_reads sum_case_text refl refl))
       (map_begins (Is (is_mark backtick)) shp.Poly (AreSome bar square_close (IsPolyCase B))
       (then_begins (Is (is_mark backtick)) (IsPolyCase B) (λ v. Mapped (λ us. v ∷ us) (Rest (is_mark bar) (is_mark square_close) (IsPolyCase B)))
-      (then_begins (Is (is_mark backtick)) (IsMark backtick) (λ u. Then (One name_of) (λ n. Mapped (λ o. record { name = n; arg = o }) (Maybe is_of (IsProduct B)))) (mark_begins backtick))))
+      (then_begins (Is (is_mark backtick)) (ThisMark backtick) (λ u. Then (One name_of) (λ n. Mapped (λ o. record { name = n; arg = o }) (Maybe is_of (IsProduct B)))) (mark_begins backtick))))
       (map_begins (IsNot (is_mark backtick)) shp.Sum (AreSome bar square_close (IsSumCase B))
       (then_begins (IsNot (is_mark backtick)) (IsSumCase B) (λ v. Mapped (λ us. v ∷ us) (Rest (is_mark bar) (is_mark square_close) (IsSumCase B)))
       (then_begins (IsNot (is_mark backtick)) (One name_of) (λ n. Mapped (λ o. record { name = n; args = no_arguments o }) (Maybe is_of (AreFactors B))) (leaf_begins backtick name_of (λ b. refl)))))
@@ -265,17 +265,17 @@ base_reads (suc d) =
     (curly_reads (IsBase d) (base_at d) (base_reads d) (base_text d))
     (branch_reads Any (is_mark square_open) (InSquare (IsBase d)) (One base_of) (square_at (base_at d)) base_word_at (mark_blind FloatWord square_open)
     (square_reads (IsBase d) (base_at d) (base_reads d) (base_text d)) base_word_reads
-    (then_begins (Is (is_mark square_open)) (IsMark square_open) _ (mark_begins square_open))
+    (then_begins (Is (is_mark square_open)) (ThisMark square_open) _ (mark_begins square_open))
     (leaf_begins square_open base_of (λ b. refl)) (shp.Unit, unit_word, inr is_unit))
-    (then_begins (Is (is_mark curly_open)) (IsMark curly_open) _ (mark_begins curly_open))
+    (then_begins (Is (is_mark curly_open)) (ThisMark curly_open) _ (mark_begins curly_open))
     (branch_begins (IsNot (is_mark curly_open)) (InSquare (IsBase d)) (One base_of)
-    (then_begins (IsNot (is_mark curly_open)) (IsMark square_open) _ (mark_begins_not curly_open square_open refl)) (leaf_begins curly_open base_of (λ b. refl)))
+    (then_begins (IsNot (is_mark curly_open)) (ThisMark square_open) _ (mark_begins_not curly_open square_open refl)) (leaf_begins curly_open base_of (λ b. refl)))
     (shp.Unit, unit_word, inr (inr is_unit)))
-    (then_begins (Is (is_mark round_open)) (IsMark round_open) _ (mark_begins round_open))
+    (then_begins (Is (is_mark round_open)) (ThisMark round_open) _ (mark_begins round_open))
     (branch_begins (IsNot (is_mark round_open)) (InCurly (IsBase d)) (Branch (InSquare (IsBase d)) (One base_of))
-    (then_begins (IsNot (is_mark round_open)) (IsMark curly_open) _ (mark_begins_not round_open curly_open refl))
+    (then_begins (IsNot (is_mark round_open)) (ThisMark curly_open) _ (mark_begins_not round_open curly_open refl))
     (branch_begins (IsNot (is_mark round_open)) (InSquare (IsBase d)) (One base_of)
-    (then_begins (IsNot (is_mark round_open)) (IsMark square_open) _ (mark_begins_not round_open square_open refl)) (leaf_begins round_open base_of (λ b. refl))))
+    (then_begins (IsNot (is_mark round_open)) (ThisMark square_open) _ (mark_begins_not round_open square_open refl)) (leaf_begins round_open base_of (λ b. refl))))
     (shp.Unit, unit_word, inr (inr (inr is_unit)))
   where
     unit_word : List Token

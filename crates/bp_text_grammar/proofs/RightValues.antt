@@ -9,7 +9,7 @@ use Rattle.bp_value.specs.Limits.{deepest_sexp}
 use Rattle.bp_value.specs.Form.{Form, Parts, Cases, unit, bool, char, int, int32, int64, text, opt, listed, tuple, fields, sum, poly, sexp, end, part, end_cases, case}
 use Rattle.bp_value.specs.Faults.{IsGood}
 use Rattle.bp_text_grammar.specs.Tokens.{Token, Word, Number, Text, Char, Mark}
-use Rattle.bp_text_grammar.specs.Texts.{Why, BadText, IsValueFault, round_open, round_close, comma, semicolon, equals, square_open, square_close, backtick, curly_open, curly_close, is_mark, is_word, word_for, IsMark, mark_at, IsWord, word_at, Closed, closed_at, Onto, onto_at}
+use Rattle.bp_text_grammar.specs.Texts.{Why, BadText, IsValueFault, round_open, round_close, comma, semicolon, equals, square_open, square_close, backtick, curly_open, curly_close, is_mark, is_word, word_for, ThisMark, mark_at, ThisWord, word_at, Closed, closed_at, Onto, onto_at}
 use Rattle.bp_text_grammar.specs.ValueTexts.{bool_of, char_value_of, number_of, text_of, atom_of, case_of, Items, Label, Inside, IsSexpTokens, IsValueTokens, ArePartTokens, AreMorePartTokens, AreFieldTokens, AreMoreFieldTokens, AreCaseTokens, AreArgumentTokens, items_at, label_at, inside_at, sexp_at, value_at, parts_at, more_parts_at, fields_at, more_fields_at, case_at, arguments_at, whole_value_at}
 use Rattle.bp_text_grammar.proofs.Twins.{NoWord}
 use Rattle.bp_text_grammar.proofs.Told.{Reads, one_reads, done_reads, mapped_reads, meeting_reads, branch_reads, rest_reads, until_reads, right_common, ended_reads}
@@ -24,7 +24,7 @@ items_reads L r right (value, tokens, start) begins =
     branch_reads Any (is_mark square_close) (Closed square_close) (Onto L (Rest (is_mark semicolon) (is_mark square_close) L))
     (closed_at square_close) (onto_at r (λ us. rests (is_mark semicolon) (is_mark square_close) BadText r (length us) us)) (none_blind (is_mark square_close))
     (closed_reads square_close) going
-    (map_begins (Is (is_mark square_close)) (λ u. []) (IsMark square_close) (mark_begins square_close))
+    (map_begins (Is (is_mark square_close)) (λ u. []) (ThisMark square_close) (mark_begins square_close))
     (then_begins (IsNot (is_mark square_close)) L _ begins)
     ([], Mark square_close ∷ [], inl (tt, refl, mark_text square_close))
   where
@@ -42,7 +42,7 @@ items_reads L r right (value, tokens, start) begins =
 
 label_reads : (name : List ℕ) → Reads NoWord Any (Label name) (label_at name)
 label_reads name =
-    then_reads Any (IsWord name) (word_at name) (λ x. IsMark equals) (λ x us. mark_at equals us) (word_reads name tt)
+    then_reads Any (ThisWord name) (word_at name) (λ x. ThisMark equals) (λ x us. mark_at equals us) (word_reads name tt)
     (λ x. mark_reads equals) (λ x. (tt, Mark equals ∷ [], mark_text equals))
 
 -- ---- S-expressions
@@ -51,13 +51,13 @@ label_reads name =
 sexp_layer : (d : ℕ) → Reads NoWord Any (Inside d (IsSexpTokens d)) (inside_at d (sexp_at d)) → Reads NoWord Any (IsSexpTokens (suc d)) (sexp_at (suc d))
 unfolding IsSexpTokens sexp_at
 sexp_layer d items =
-    branch_reads Any (is_mark round_open) (Then (IsMark round_open) (λ u. Mapped sx.List (Inside d (IsSexpTokens d)))) (One atom_of)
+    branch_reads Any (is_mark round_open) (Then (ThisMark round_open) (λ u. Mapped sx.List (Inside d (IsSexpTokens d)))) (One atom_of)
     (λ us. after (mark_at round_open us) (λ u xs. mapped sx.List (inside_at d (sexp_at d) xs))) (one atom_of BadText) (none_blind (is_mark round_open))
     (after_mark_reads Any round_open (Mapped sx.List (Inside d (IsSexpTokens d))) (λ xs. mapped sx.List (inside_at d (sexp_at d) xs))
     (mapped_reads Any sx.List (Inside d (IsSexpTokens d)) (inside_at d (sexp_at d)) items)
     (mapped_text sx.List (Inside d (IsSexpTokens d)) (inside_text d (IsSexpTokens d))))
     (one_reads atom_of (Text []) (sx.Atom []) refl (λ b own none. absurd cc))
-    (then_begins (Is (is_mark round_open)) (IsMark round_open) _ (mark_begins round_open))
+    (then_begins (Is (is_mark round_open)) (ThisMark round_open) _ (mark_begins round_open))
     (leaf_begins round_open atom_of (λ b. refl))
     (sx.Atom [], Text [] ∷ [], inr (Text [], refl, refl))
 
@@ -97,9 +97,9 @@ mutual
 
   pub value_reads : (f : Form) → IsRead f → Reads NoWord Any (IsValueTokens f) (value_at f)
   value_reads unit is =
-      after_mark_reads Any round_open (Mapped (λ x. val.Unit) (IsMark round_close)) (λ us. mapped (λ x. val.Unit) (mark_at round_close us))
-      (mapped_reads Any (λ x. val.Unit) (IsMark round_close) (mark_at round_close) (mark_reads round_close))
-      (mapped_text (λ x. val.Unit) (IsMark round_close) (tt, Mark round_close ∷ [], mark_text round_close))
+      after_mark_reads Any round_open (Mapped (λ x. val.Unit) (ThisMark round_close)) (λ us. mapped (λ x. val.Unit) (mark_at round_close us))
+      (mapped_reads Any (λ x. val.Unit) (ThisMark round_close) (mark_at round_close) (mark_reads round_close))
+      (mapped_text (λ x. val.Unit) (ThisMark round_close) (tt, Mark round_close ∷ [], mark_text round_close))
   value_reads bool is = one_reads bool_of (Word (codes "true")) (val.Bool true) refl (λ b own none. absurd cc)
   value_reads char is = one_reads char_value_of (Char 0) (val.Char 0) refl (λ b own none. absurd cc)
   value_reads int is = one_reads (number_of 62) (Number (pos 0)) (val.Num (pos 0)) refl (λ b own none. absurd cc)
@@ -107,14 +107,14 @@ mutual
   value_reads int64 is = one_reads (number_of 63) (Number (pos 0)) (val.Num (pos 0)) refl (λ b own none. absurd cc)
   value_reads text is = one_reads text_of (Text []) (val.Text []) refl (λ b own none. absurd cc)
   value_reads (opt f) is =
-      branch_reads Any (is_word (codes "none")) (One (word_for (codes "none") val.Absent)) (Then (IsWord (codes "some")) (λ u. Mapped val.Present (IsValueTokens f)))
+      branch_reads Any (is_word (codes "none")) (One (word_for (codes "none") val.Absent)) (Then (ThisWord (codes "some")) (λ u. Mapped val.Present (IsValueTokens f)))
       (one (word_for (codes "none") val.Absent) BadText) (λ us. after (word_at (codes "some") us) (λ u xs. mapped val.Present (value_at f xs))) (none_blind (is_word (codes "none")))
       (word_reads (codes "none") val.Absent)
-      (then_reads Any (IsWord (codes "some")) (word_at (codes "some")) (λ u. Mapped val.Present (IsValueTokens f)) (λ u xs. mapped val.Present (value_at f xs))
+      (then_reads Any (ThisWord (codes "some")) (word_at (codes "some")) (λ u. Mapped val.Present (IsValueTokens f)) (λ u xs. mapped val.Present (value_at f xs))
       (word_reads (codes "some") tt) (λ u. mapped_reads Any val.Present (IsValueTokens f) (value_at f) (value_reads f is))
       (λ u. mapped_text val.Present (IsValueTokens f) (value_text f is)))
       (word_begins (codes "none") val.Absent)
-      (then_begins (IsNot (is_word (codes "none"))) (IsWord (codes "some")) _ (word_begins_not (codes "none") (codes "some") refl))
+      (then_begins (IsNot (is_word (codes "none"))) (ThisWord (codes "some")) _ (word_begins_not (codes "none") (codes "some") refl))
       (val.Absent, Word (codes "none") ∷ [], inl (Word (codes "none"), refl, word_same (codes "none") val.Absent))
   value_reads (listed f) is =
       after_mark_reads Any square_open (Mapped val.Items (Items (IsValueTokens f))) (λ us. mapped val.Items (items_at (value_at f) us))

@@ -11,7 +11,7 @@ use Rattle.bp_value.specs.Names.{IsDistinct}
 use Rattle.bp_value.specs.Faults.{nodes, part_nodes, case_nodes, case_names, IsGood}
 use Rattle.bp_value.proofs.Good.{AreGood, good_root, good_node, good_opt, good_listed, good_tuple, good_fields, good_sum, good_poly, good_part, good_case, some_cases, distinct_names}
 use Rattle.bp_text_grammar.specs.Tokens.{Token, Word, Number, Text, Char, Mark}
-use Rattle.bp_text_grammar.specs.Texts.{round_open, round_close, comma, semicolon, equals, square_open, square_close, backtick, curly_open, curly_close, same, is_mark, word_for, IsMark, IsWord, Onto}
+use Rattle.bp_text_grammar.specs.Texts.{round_open, round_close, comma, semicolon, equals, square_open, square_close, backtick, curly_open, curly_close, same, is_mark, word_for, ThisMark, ThisWord, Onto}
 use Rattle.bp_text_grammar.specs.ValueTexts.{bool_of, char_value_of, number_of, text_of, atom_of, case_named, case_of, Items, Label, Inside, IsSexpTokens, IsValueTokens, ArePartTokens, AreMorePartTokens, AreFieldTokens, AreMoreFieldTokens, AreCaseTokens, AreArgumentTokens}
 use Rattle.bp_text_grammar.proofs.Words.{HasText, same_refl, mark_text, mark_begins_not, word_same, word_text, map_begins, then_text, mapped_text, after_mark, closed_text, onto_text}
 
@@ -128,14 +128,14 @@ pub sexp_begins : (m : ℕ) → nat_eq round_open m ≡ false → (d : ℕ) → 
 unfolding IsSexpTokens
 sexp_begins m apart zero x ts l = absurd l
 sexp_begins m apart (suc d) x ts l =
-    branch_begins (IsNot (is_mark m)) (Then (IsMark round_open) (λ u. Mapped sx.List (Inside d (IsSexpTokens d)))) (One atom_of)
-    (then_begins (IsNot (is_mark m)) (IsMark round_open) (λ u. Mapped sx.List (Inside d (IsSexpTokens d))) (mark_begins_not m round_open apart))
+    branch_begins (IsNot (is_mark m)) (Then (ThisMark round_open) (λ u. Mapped sx.List (Inside d (IsSexpTokens d)))) (One atom_of)
+    (then_begins (IsNot (is_mark m)) (ThisMark round_open) (λ u. Mapped sx.List (Inside d (IsSexpTokens d))) (mark_begins_not m round_open apart))
     (leaf_begins m atom_of (λ b. refl)) x ts l
 
 -- no text begins with the mark that ends a list
 pub value_begins : (f : Form) → Begins (IsNot (is_mark square_close)) (IsValueTokens f)
 unfolding IsValueTokens
-value_begins unit = then_begins (IsNot (is_mark square_close)) (IsMark round_open) _ (mark_begins_not square_close round_open refl)
+value_begins unit = then_begins (IsNot (is_mark square_close)) (ThisMark round_open) _ (mark_begins_not square_close round_open refl)
 value_begins bool = leaf_begins square_close bool_of (λ b. refl)
 value_begins char = leaf_begins square_close char_value_of (λ b. refl)
 value_begins int = leaf_begins square_close (number_of 62) (λ b. refl)
@@ -144,12 +144,12 @@ value_begins int64 = leaf_begins square_close (number_of 63) (λ b. refl)
 value_begins text = leaf_begins square_close text_of (λ b. refl)
 value_begins (opt f) =
     branch_begins (IsNot (is_mark square_close)) (One (word_for (codes "none") val.Absent)) _ (leaf_begins square_close (word_for (codes "none") val.Absent) (λ b. refl))
-    (then_begins (IsNot (is_mark square_close)) (IsWord (codes "some")) _ (leaf_begins square_close (word_for (codes "some") tt) (λ b. refl)))
-value_begins (listed f) = then_begins (IsNot (is_mark square_close)) (IsMark square_open) _ (mark_begins_not square_close square_open refl)
-value_begins (tuple fs) = then_begins (IsNot (is_mark square_close)) (IsMark round_open) _ (mark_begins_not square_close round_open refl)
-value_begins (fields fs) = then_begins (IsNot (is_mark square_close)) (IsMark curly_open) _ (mark_begins_not square_close curly_open refl)
+    (then_begins (IsNot (is_mark square_close)) (ThisWord (codes "some")) _ (leaf_begins square_close (word_for (codes "some") tt) (λ b. refl)))
+value_begins (listed f) = then_begins (IsNot (is_mark square_close)) (ThisMark square_open) _ (mark_begins_not square_close square_open refl)
+value_begins (tuple fs) = then_begins (IsNot (is_mark square_close)) (ThisMark round_open) _ (mark_begins_not square_close round_open refl)
+value_begins (fields fs) = then_begins (IsNot (is_mark square_close)) (ThisMark curly_open) _ (mark_begins_not square_close curly_open refl)
 value_begins (sum cs) = then_begins (IsNot (is_mark square_close)) (One (case_of cs)) _ (leaf_begins square_close (case_of cs) (λ b. refl))
-value_begins (poly cs) = then_begins (IsNot (is_mark square_close)) (IsMark backtick) _ (mark_begins_not square_close backtick refl)
+value_begins (poly cs) = then_begins (IsNot (is_mark square_close)) (ThisMark backtick) _ (mark_begins_not square_close backtick refl)
 value_begins sexp = map_begins (IsNot (is_mark square_close)) val.Sexp (IsSexpTokens deepest_sexp) (sexp_begins square_close refl deepest_sexp)
 
 -- ---- a text of each form
@@ -166,7 +166,7 @@ pub items_text : {A : Type 0} (L : A → List Token → Type 0) → HasText (Ite
 items_text L = let (vs, ts, l) = closed_text square_close in (vs, ts, inl l)
 
 pub label_text : (name : List ℕ) → HasText (Label name)
-label_text name = then_text (IsWord name) (λ x. IsMark equals) tt (Word name ∷ []) (word_text name) (tt, Mark equals ∷ [], mark_text equals)
+label_text name = then_text (ThisWord name) (λ x. ThisMark equals) tt (Word name ∷ []) (word_text name) (tt, Mark equals ∷ [], mark_text equals)
 
 pub after_label : {B : Type 0} (name : List ℕ) (M : B → List Token → Type 0) → HasText M → HasText (Then (Label name) (λ u. M))
 after_label name M has = let (u, ts, l) = label_text name in then_text (Label name) (λ u. M) u ts l has
@@ -178,7 +178,7 @@ mutual
   unfolding IsValueTokens ArePartTokens AreMorePartTokens AreFieldTokens AreMoreFieldTokens AreCaseTokens AreArgumentTokens IsRead ArePartsRead AreCasesRead
 
   pub value_text : (f : Form) → IsRead f → HasText (IsValueTokens f)
-  value_text unit is = after_mark round_open (Mapped (λ x. val.Unit) (IsMark round_close)) (mapped_text (λ x. val.Unit) (IsMark round_close) (tt, Mark round_close ∷ [], mark_text round_close))
+  value_text unit is = after_mark round_open (Mapped (λ x. val.Unit) (ThisMark round_close)) (mapped_text (λ x. val.Unit) (ThisMark round_close) (tt, Mark round_close ∷ [], mark_text round_close))
   value_text bool is = (val.Bool true, Word (codes "true") ∷ [], (Word (codes "true"), refl, refl))
   value_text char is = (val.Char 0, Char 0 ∷ [], (Char 0, refl, refl))
   value_text int is = zero_text 62 refl

@@ -4,7 +4,7 @@ use Rattle.readers.specs.Reader.{Outcome, after, mapped, Any, Is, IsNot, Then, M
 use Rattle.readers.proofs.Readers.{follows-any}
 use Rattle.readers.proofs.Leaves.{pick_true, one_begins}
 use Rattle.bp_text_grammar.specs.Tokens.{Token, Word, Mark}
-use Rattle.bp_text_grammar.specs.Texts.{Why, BadText, same, is_mark, is_word, when, mark, word_for, IsMark, mark_at, IsWord, Closed, closed_at, Onto}
+use Rattle.bp_text_grammar.specs.Texts.{Why, BadText, same, is_mark, is_word, when, mark, word_for, ThisMark, mark_at, ThisWord, Closed, closed_at, Onto}
 use Rattle.bp_text_grammar.proofs.Twins.{Own, NoWord, FloatWord, int_word, IsBlind}
 use Rattle.bp_text_grammar.proofs.Told.{Reads, one_reads, mapped_reads, meeting_reads}
 
@@ -48,10 +48,10 @@ when_is false a c e = absurd cc
 pub mark_same : (m : ℕ) → mark m (Mark m) ≡ Some tt
 mark_same m = pick_true (nat_eq m m) (Some tt) None (grind arith)
 
-pub mark_text : (m : ℕ) → IsMark m tt (Mark m ∷ [])
+pub mark_text : (m : ℕ) → ThisMark m tt (Mark m ∷ [])
 mark_text m = (Mark m, refl, mark_same m)
 
-pub mark_reads : {k : Own} (m : ℕ) → Reads k Any (IsMark m) (mark_at m)
+pub mark_reads : {k : Own} (m : ℕ) → Reads k Any (ThisMark m) (mark_at m)
 mark_reads m = one_reads (mark m) (Mark m) tt (mark_same m) (λ b own none. refl)
 
 pub mark_is : (m : ℕ) (t : Token) → is_mark m t ≡ true → t ≡ Mark m
@@ -61,14 +61,14 @@ mark_is m (Mark b) e = ap Mark (equal e)
     equal t = grind arith
 mark_is m _ e = absurd cc
 
-pub mark_begins : (m : ℕ) → Begins (Is (is_mark m)) (IsMark m)
+pub mark_begins : (m : ℕ) → Begins (Is (is_mark m)) (ThisMark m)
 mark_begins m = one_begins (Is (is_mark m)) (mark m) (λ t u e. (when_is (is_mark m t) tt u e).0)
 
 -- one mark is no other
 pub marks_apart : (m n : ℕ) → nat_eq n m ≡ false → (t : Token) → is_mark n t ≡ true → is_mark m t ≡ false
 marks_apart m n apart t e = ap (λ x. is_mark m x) (mark_is n t e) ∙ apart
 
-pub mark_begins_not : (m n : ℕ) → nat_eq n m ≡ false → Begins (IsNot (is_mark m)) (IsMark n)
+pub mark_begins_not : (m n : ℕ) → nat_eq n m ≡ false → Begins (IsNot (is_mark m)) (ThisMark n)
 mark_begins_not m n apart = one_begins (IsNot (is_mark m)) (mark n) (λ t u e. marks_apart m n apart t (when_is (is_mark n t) tt u e).0)
 
 -- no word has a reason of its own; or the word `float` alone, and then a test is blind that does not tell it from `int`
@@ -83,7 +83,7 @@ word_same w a = pick_true (same w w) (Some a) None (same_refl w)
 pub word_reads : {A : Type 0} (w : List ℕ) (a : A) → Reads NoWord Any (One (word_for w a)) (one (word_for w a) BadText)
 word_reads w a = one_reads (word_for w a) (Word w) a (word_same w a) (λ b own none. absurd cc)
 
-pub word_text : (w : List ℕ) → IsWord w tt (Word w ∷ [])
+pub word_text : (w : List ℕ) → ThisWord w tt (Word w ∷ [])
 word_text w = (Word w, refl, word_same w tt)
 
 pub word_begins : {A : Type 0} (w : List ℕ) (a : A) → Begins (Is (is_word w)) (One (word_for w a))
@@ -108,7 +108,7 @@ word_no_mark w m t e = ap (λ x. is_mark m x) (words_is w t e)
 pub words_apart : (v w : List ℕ) → same w v ≡ false → (t : Token) → is_word w t ≡ true → is_word v t ≡ false
 words_apart v w apart t e = ap (λ x. is_word v x) (words_is w t e) ∙ apart
 
-pub word_begins_not : (v w : List ℕ) → same w v ≡ false → Begins (IsNot (is_word v)) (IsWord w)
+pub word_begins_not : (v w : List ℕ) → same w v ≡ false → Begins (IsNot (is_word v)) (ThisWord w)
 word_begins_not v w apart = one_begins (IsNot (is_word v)) (word_for w tt) (λ t b e. words_apart v w apart t (when_is (is_word w t) tt b e).0)
 
 -- ---- put together
@@ -130,20 +130,20 @@ pub mapped_text : {A B : Type 0} (g : A → B) (L : A → List Token → Type 0)
 mapped_text g L (a, ts, l) = (g a, ts, (a, refl, l))
 
 -- a mark, and what follows it
-pub after_mark : {B : Type 0} (m : ℕ) (M : B → List Token → Type 0) → HasText M → HasText (Then (IsMark m) (λ u. M))
-after_mark m M has = then_text (IsMark m) (λ u. M) tt (Mark m ∷ []) (mark_text m) has
+pub after_mark : {B : Type 0} (m : ℕ) (M : B → List Token → Type 0) → HasText M → HasText (Then (ThisMark m) (λ u. M))
+after_mark m M has = then_text (ThisMark m) (λ u. M) tt (Mark m ∷ []) (mark_text m) has
 
 pub after_mark_reads : {k : Own} {B : Type 0} (E : Token → Type 0) (m : ℕ) (M : B → List Token → Type 0) (q : List Token → Outcome Token Why B)
-    → Reads k E M q → HasText M → Reads k E (Then (IsMark m) (λ u. M)) (λ ts. after (mark_at m ts) (λ u us. q us))
-after_mark_reads E m M q right has = then_reads E (IsMark m) (mark_at m) (λ u. M) (λ u us. q us) (mark_reads m) (λ u. right) (λ u. has)
+    → Reads k E M q → HasText M → Reads k E (Then (ThisMark m) (λ u. M)) (λ ts. after (mark_at m ts) (λ u us. q us))
+after_mark_reads E m M q right has = then_reads E (ThisMark m) (mark_at m) (λ u. M) (λ u us. q us) (mark_reads m) (λ u. right) (λ u. has)
 
 -- ---- lists
 
 pub closed_text : {A : Type 0} (m : ℕ) → HasText (Closed {A = A} m)
-closed_text m = mapped_text (λ u. []) (IsMark m) (tt, Mark m ∷ [], mark_text m)
+closed_text m = mapped_text (λ u. []) (ThisMark m) (tt, Mark m ∷ [], mark_text m)
 
 pub closed_reads : {k : Own} {A : Type 0} (m : ℕ) → Reads k Any (Closed {A = A} m) (closed_at m)
-closed_reads m = mapped_reads Any (λ u. []) (IsMark m) (mark_at m) (mark_reads m)
+closed_reads m = mapped_reads Any (λ u. []) (ThisMark m) (mark_at m) (mark_reads m)
 
 pub onto_text : {A : Type 0} (L : A → List Token → Type 0) (M : List A → List Token → Type 0) → HasText L → HasText M → HasText (Onto L M)
 onto_text L M (v, t, l) has = then_text L (λ v. Mapped (λ us. v ∷ us) M) v t l (mapped_text (λ us. v ∷ us) M has)

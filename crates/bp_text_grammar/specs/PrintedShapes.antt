@@ -1,5 +1,5 @@
 -- The printed text of a shape.
-use Rattle.std.specs.Prelude.{Option, Some, None, ℕ, Bool, true, false, if◌then◌else◌, List, [], ◌∷◌, ◌++◌, codes}
+use Rattle.std.specs.Prelude.{Option, Some, None, ℕ, ℤ, Bool, true, false, if◌then◌else◌, List, [], ◌∷◌, ◌++◌, codes}
 use Rattle.bp_value.specs.declared.shape.Shape.{Shape, fold-Shape}
 use Rattle.bp_value.specs.declared.shape.Shape.TheOpen.{Shape-F, Case-F, Field-F, PolyCase-F}
 use Rattle.bp_value.specs.declared.shape.Shape.TheOpen as layer
@@ -85,6 +85,6 @@ shape_pieces s = (shape_printed s).1
 unfoldable pub shape_tokens : Shape → List Token
 shape_tokens s = tokens_of (shape_pieces s)
 
--- its bytes: it has no text, no char and no number
-unfoldable pub shape_text_of : Shape → List ℕ
-shape_text_of s = bytes_of (λ t. []) (λ b. []) (λ n. []) (shape_pieces s)
+-- its bytes, by those of texts and chars in quotes and of decimals, of which it has none
+unfoldable pub shape_text_of : (List ℕ → List ℕ) → (ℕ → List ℕ) → (ℤ → List ℕ) → Shape → List ℕ
+shape_text_of quoted_text quoted_char decimal_text s = bytes_of quoted_text quoted_char decimal_text (shape_pieces s)

@@ -9,7 +9,7 @@ use Rattle.bp_value.specs.declared.shape.Case.{Case}
 use Rattle.bp_value.specs.declared.shape.PolyCase.{PolyCase}
 use Rattle.bp_value.specs.Limits.{longest_name}
 use Rattle.bp_text_grammar.specs.Tokens.{Token, Word}
-use Rattle.bp_text_grammar.specs.Texts.{Why, Float, BadText, round_open, round_close, star, colon, semicolon, square_open, square_close, backtick, curly_open, bar, curly_close, same, is_mark, is_word, when, IsMark, mark_at, Onto, onto_at}
+use Rattle.bp_text_grammar.specs.Texts.{Why, Float, BadText, round_open, round_close, star, colon, semicolon, square_open, square_close, backtick, curly_open, bar, curly_close, same, is_mark, is_word, when, ThisMark, mark_at, Onto, onto_at}
 
 -- the most brackets that are open at once
 abbrev pub most_brackets : ℕ
@@ -87,14 +87,14 @@ abbrev pub IsProduct : (Shape → List Token → Type 0) → Shape → List Toke
 IsProduct B s ts = Mapped tupled (AreFactors B) s ts
 
 abbrev pub IsField : (Shape → List Token → Type 0) → Field → List Token → Type 0
-IsField B f ts = Then (One name_of) (λ n. Then (IsMark colon) (λ u. Mapped (λ s. record { name = n; shape = s }) (IsProduct B))) f ts
+IsField B f ts = Then (One name_of) (λ n. Then (ThisMark colon) (λ u. Mapped (λ s. record { name = n; shape = s }) (IsProduct B))) f ts
 
 abbrev pub IsSumCase : (Shape → List Token → Type 0) → Case → List Token → Type 0
 IsSumCase B c ts = Then (One name_of) (λ n. Mapped (λ o. record { name = n; args = no_arguments o }) (Maybe is_of (AreFactors B))) c ts
 
 abbrev pub IsPolyCase : (Shape → List Token → Type 0) → PolyCase → List Token → Type 0
 IsPolyCase B c ts =
-    Then (IsMark backtick) (λ u. Then (One name_of) (λ n. Mapped (λ o. record { name = n; arg = o }) (Maybe is_of (IsProduct B)))) c ts
+    Then (ThisMark backtick) (λ u. Then (One name_of) (λ n. Mapped (λ o. record { name = n; arg = o }) (Maybe is_of (IsProduct B)))) c ts
 
 -- one of L, and more after a separator, up to the closing mark
 abbrev pub AreSome : {A : Type 0} → ℕ → ℕ → (A → List Token → Type 0) → List A → List Token → Type 0
@@ -102,14 +102,14 @@ AreSome sep close L vs ts = Onto L (Rest (is_mark sep) (is_mark close) L) vs ts
 
 -- a shape in round brackets; a record; a variant, of the one kind or the other
 abbrev pub InRound : (Shape → List Token → Type 0) → Shape → List Token → Type 0
-InRound B s ts = Then (IsMark round_open) (λ u. Then (IsProduct B) (λ p. Mapped (λ x. p) (IsMark round_close))) s ts
+InRound B s ts = Then (ThisMark round_open) (λ u. Then (IsProduct B) (λ p. Mapped (λ x. p) (ThisMark round_close))) s ts
 
 abbrev pub InCurly : (Shape → List Token → Type 0) → Shape → List Token → Type 0
-InCurly B s ts = Then (IsMark curly_open) (λ u. Mapped shp.Fields (AreSome semicolon curly_close (IsField B))) s ts
+InCurly B s ts = Then (ThisMark curly_open) (λ u. Mapped shp.Fields (AreSome semicolon curly_close (IsField B))) s ts
 
 abbrev pub InSquare : (Shape → List Token → Type 0) → Shape → List Token → Type 0
 InSquare B s ts =
-    Then (IsMark square_open) (λ u. Branch (Mapped shp.Poly (AreSome bar square_close (IsPolyCase B)))
+    Then (ThisMark square_open) (λ u. Branch (Mapped shp.Poly (AreSome bar square_close (IsPolyCase B)))
     (Mapped shp.Sum (AreSome bar square_close (IsSumCase B)))) s ts
 
 -- ---- all shapes

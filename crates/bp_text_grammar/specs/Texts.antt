@@ -82,14 +82,14 @@ mark m t = when (is_mark m t) tt
 abbrev pub word_for : {A : Type 0} → List ℕ → A → Token → Option A
 word_for w a t = when (is_word w t) a
 
-abbrev pub IsMark : ℕ → Unit {0} → List Token → Type 0
-IsMark m u ts = One (mark m) u ts
+abbrev pub ThisMark : ℕ → Unit {0} → List Token → Type 0
+ThisMark m u ts = One (mark m) u ts
 
 abbrev pub mark_at : ℕ → List Token → Outcome Token Why (Unit {0})
 mark_at m ts = one (mark m) BadText ts
 
-abbrev pub IsWord : List ℕ → Unit {0} → List Token → Type 0
-IsWord w u ts = One (word_for w tt) u ts
+abbrev pub ThisWord : List ℕ → Unit {0} → List Token → Type 0
+ThisWord w u ts = One (word_for w tt) u ts
 
 abbrev pub word_at : List ℕ → List Token → Outcome Token Why (Unit {0})
 word_at w ts = one (word_for w tt) BadText ts
@@ -98,7 +98,7 @@ word_at w ts = one (word_for w tt) BadText ts
 
 -- a closing mark, and no value
 abbrev pub Closed : {A : Type 0} → ℕ → List A → List Token → Type 0
-Closed close vs ts = Mapped (λ u. []) (IsMark close) vs ts
+Closed close vs ts = Mapped (λ u. []) (ThisMark close) vs ts
 
 abbrev pub closed_at : {A : Type 0} → ℕ → List Token → Outcome Token Why (List A)
 closed_at close ts = mapped (λ u. []) (mark_at close ts)

@@ -11,7 +11,7 @@ use Rattle.bp_value.specs.declared.value.Sexp.TheVariants as sx
 use Rattle.bp_value.specs.Limits.{deepest_sexp}
 use Rattle.bp_value.specs.Form.{Form, Parts, Cases, unit, bool, char, int, int32, int64, text, opt, listed, tuple, fields, sum, poly, sexp, end, part, end_cases, case}
 use Rattle.bp_text_grammar.specs.Tokens.{Token, Word, Number, Text, Char}
-use Rattle.bp_text_grammar.specs.Texts.{Why, BadText, round_open, round_close, comma, semicolon, equals, square_open, square_close, backtick, curly_open, curly_close, same, is_mark, is_word, when, word_for, IsMark, mark_at, IsWord, word_at, Closed, closed_at, Onto, onto_at}
+use Rattle.bp_text_grammar.specs.Texts.{Why, BadText, round_open, round_close, comma, semicolon, equals, square_open, square_close, backtick, curly_open, curly_close, same, is_mark, is_word, when, word_for, ThisMark, mark_at, ThisWord, word_at, Closed, closed_at, Onto, onto_at}
 
 -- ---- leaves of one token
 
@@ -56,7 +56,7 @@ Items L vs ts = Branch (Closed square_close) (Onto L (Rest (is_mark semicolon) (
 
 -- the name of a field, and `=`
 abbrev pub Label : List ℕ → Unit {0} → List Token → Type 0
-Label name u ts = Then (IsWord name) (λ x. IsMark equals) u ts
+Label name u ts = Then (ThisWord name) (λ x. ThisMark equals) u ts
 
 -- after `(` of an S-expression whose items may be d deep: none where no item may stand, and else any number; and then `)`
 abbrev pub Inside : {A : Type 0} → ℕ → (A → List Token → Type 0) → List A → List Token → Type 0
@@ -66,7 +66,7 @@ Inside (suc d) L xs ts = Until (is_mark round_close) L xs ts
 -- an S-expression of depth at most d
 unfoldable pub IsSexpTokens : ℕ → Sexp → List Token → Type 0
 IsSexpTokens zero x ts = ⊥
-IsSexpTokens (suc d) x ts = Branch (Then (IsMark round_open) (λ u. Mapped sx.List (Inside d (IsSexpTokens d)))) (One atom_of) x ts
+IsSexpTokens (suc d) x ts = Branch (Then (ThisMark round_open) (λ u. Mapped sx.List (Inside d (IsSexpTokens d)))) (One atom_of) x ts
 
 -- the language of the case at a place: of this one at place 0, of a later one at the place after it
 abbrev pub CaseAt : {A : Type 0} → (A → List Token → Type 0) → (ℕ → A → List Token → Type 0) → ℕ → A → List Token → Type 0
@@ -77,7 +77,7 @@ CaseAt Here Later (suc place) a ts = Later place a ts
 
 unfoldable mutual
   pub IsValueTokens : Form → Value → List Token → Type 0
-  IsValueTokens unit v ts = Then (IsMark round_open) (λ u. Mapped (λ x. val.Unit) (IsMark round_close)) v ts
+  IsValueTokens unit v ts = Then (ThisMark round_open) (λ u. Mapped (λ x. val.Unit) (ThisMark round_close)) v ts
   IsValueTokens bool v ts = One bool_of v ts
   IsValueTokens char v ts = One char_value_of v ts
   IsValueTokens int v ts = One (number_of 62) v ts
@@ -85,13 +85,13 @@ unfoldable mutual
   IsValueTokens int64 v ts = One (number_of 63) v ts
   IsValueTokens text v ts = One text_of v ts
   IsValueTokens (opt f) v ts =
-      Branch (One (word_for (codes "none") val.Absent)) (Then (IsWord (codes "some")) (λ u. Mapped val.Present (IsValueTokens f))) v ts
-  IsValueTokens (listed f) v ts = Then (IsMark square_open) (λ u. Mapped val.Items (Items (IsValueTokens f))) v ts
-  IsValueTokens (tuple fs) v ts = Then (IsMark round_open) (λ u. Mapped val.Parts (ArePartTokens fs)) v ts
-  IsValueTokens (fields fs) v ts = Then (IsMark curly_open) (λ u. Mapped val.Parts (AreFieldTokens fs)) v ts
+      Branch (One (word_for (codes "none") val.Absent)) (Then (ThisWord (codes "some")) (λ u. Mapped val.Present (IsValueTokens f))) v ts
+  IsValueTokens (listed f) v ts = Then (ThisMark square_open) (λ u. Mapped val.Items (Items (IsValueTokens f))) v ts
+  IsValueTokens (tuple fs) v ts = Then (ThisMark round_open) (λ u. Mapped val.Parts (ArePartTokens fs)) v ts
+  IsValueTokens (fields fs) v ts = Then (ThisMark curly_open) (λ u. Mapped val.Parts (AreFieldTokens fs)) v ts
   IsValueTokens (sum cs) v ts = Then (One (case_of cs)) (λ place. Mapped (val.Case place) (AreCaseTokens cs place)) v ts
   IsValueTokens (poly cs) v ts =
-      Then (IsMark backtick) (λ u. Then (One (case_of cs)) (λ place. Mapped (val.Case place) (AreCaseTokens cs place))) v ts
+      Then (ThisMark backtick) (λ u. Then (One (case_of cs)) (λ place. Mapped (val.Case place) (AreCaseTokens cs place))) v ts
   IsValueTokens sexp v ts = Mapped val.Sexp (IsSexpTokens deepest_sexp) v ts
 
   -- the parts of a tuple after `(`, with a `,` between them, and the `)`
@@ -102,7 +102,7 @@ unfoldable mutual
   -- what stands after a part
   pub AreMorePartTokens : Parts → List Value → List Token → Type 0
   AreMorePartTokens end vs ts = Closed round_close vs ts
-  AreMorePartTokens (part name f fs) vs ts = Then (IsMark comma) (λ u. Onto (IsValueTokens f) (AreMorePartTokens fs)) vs ts
+  AreMorePartTokens (part name f fs) vs ts = Then (ThisMark comma) (λ u. Onto (IsValueTokens f) (AreMorePartTokens fs)) vs ts
 
   -- the fields of a record after `{`, with a `;` between them, and the `}`
   pub AreFieldTokens : Parts → List Value → List Token → Type 0
@@ -113,7 +113,7 @@ unfoldable mutual
   pub AreMoreFieldTokens : Parts → List Value → List Token → Type 0
   AreMoreFieldTokens end vs ts = Closed curly_close vs ts
   AreMoreFieldTokens (part name f fs) vs ts =
-      Then (IsMark semicolon) (λ x. Then (Label name) (λ u. Onto (IsValueTokens f) (AreMoreFieldTokens fs))) vs ts
+      Then (ThisMark semicolon) (λ x. Then (Label name) (λ u. Onto (IsValueTokens f) (AreMoreFieldTokens fs))) vs ts
 
   -- the arguments of the case at a place: nothing, or all of them in round brackets
   pub AreCaseTokens : Cases → ℕ → List Value → List Token → Type 0
@@ -122,7 +122,7 @@ unfoldable mutual
 
   pub AreArgumentTokens : Parts → List Value → List Token → Type 0
   AreArgumentTokens end vs ts = Done [] vs ts
-  AreArgumentTokens (part name f fs) vs ts = Then (IsMark round_open) (λ u. Onto (IsValueTokens f) (AreMorePartTokens fs)) vs ts
+  AreArgumentTokens (part name f fs) vs ts = Then (ThisMark round_open) (λ u. Onto (IsValueTokens f) (AreMorePartTokens fs)) vs ts
 
 -- ---- what bounds a value that was read
 
