@@ -1,0 +1,4 @@
+pub mod Quoted
+pub mod Pieces
+pub mod Scans
+pub mod Exact
