@@ -131,13 +131,22 @@ plain_is (d ∷ c ∷ ds) alone = elim (is_or (nat_eq d digit_zero)) [
   | inr e ↦ ap not e
 ]
 
-pub kept_by : (n : ℤ) → is_kept n ≡ true → InRange number_bits n
+kept_by : (n : ℤ) → is_kept n ≡ true → InRange number_bits n
 kept_by (pos n) e = let lt : n < 2 ^ 63 = grind arith in (omega (arith, ints), omega (arith, ints))
 kept_by (negsuc n) e = let lt : n < 2 ^ 63 = grind arith in (omega (arith, ints), omega (arith, ints))
 
-pub kept_if : (n : ℤ) → InRange number_bits n → is_kept n ≡ true
+kept_if : (n : ℤ) → InRange number_bits n → is_kept n ≡ true
 kept_if (pos n) (low, high) = let lt : n < 2 ^ 63 = omega (arith, ints) in grind arith
 kept_if (negsuc n) (low, high) = let lt : n < 2 ^ 63 = omega (arith, ints) in grind arith
+
+pub number_kept : (n : ℤ) → InRange number_bits n → number_of n ≡ Number n
+number_kept n within = pick_true (is_kept n) (Number n) Big (kept_if n within)
+
+pub number_big : (n : ℤ) → (InRange number_bits n → ⊥) → number_of n ≡ Big
+number_big n out = pick_false (is_kept n) (Number n) Big (elim (is_or (is_kept n)) [
+  | inl e ↦ absurd (out (kept_by n e))
+  | inr e ↦ e
+])
 
 pub number_token : (n : ℤ) (x : List ℕ) → IsNumber n x → IsToken (number_of n) x
 number_token n x is = elim (is_or (is_kept n)) [

@@ -98,7 +98,7 @@ reads_quoted q =
     (one_itself q) escape_begins (λ b s l. let (c, t, cut, is) = itself_begins q b s l in (c, t, cut, is.0))
     (quote, backslash ∷ quote ∷ [], inl escape_text)
 
-quoted_begins : Begins (λ c. IsNot (is_byte quote) c × Any c) (InQuotes quote)
+pub quoted_begins : Begins (λ c. IsNot (is_byte quote) c × Any c) (InQuotes quote)
 quoted_begins b s (inl l) = let (c, t, cut, is) = escape_begins b s l in let isnt : is_byte quote c ≡ false = grind arith in (c, t, cut, (isnt, tt))
 quoted_begins b s (inr l) = let (c, t, cut, is) = itself_begins quote b s l in (c, t, cut, (is.1, tt))
 

@@ -1,16 +1,15 @@
 -- Scanning one token is exact: a token is found just where it stands in front, and else what is stuck says why.
 use Rattle.std.proofs.Common.{◌≡◌, ◌≢◌, refl, sym, ap, ◌∙◌, subst, true, false, ℕ, ℤ, zero, pos, negsuc, suc, List, [], ◌∷◌, ◌++◌, ◌⊎◌, inl, inr, arith}
 use Rattle.std.specs.Char.{is_ascii_digit}
-use Rattle.bp_value.specs.Fits.{InRange}
 use Rattle.readers.specs.Reader.{Outcome, whole, more, bad, Any, Is, IsNot, Follows}
 use Rattle.readers.proofs.Readers.{each-any, follows-any}
 use Rattle.readers.proofs.Leaves.{is_or, pick_true, pick_false, this_is, this_same}
 use Rattle.readers.proofs.Places.{told_more, only_more}
 use Rattle.bp_text_grammar.specs.Tokens.{Token, Word, Number, Big, Text, Char, Mark, Wrong, OpenText, OpenChar}
-use Rattle.bp_text_grammar.specs.Lexing.{blank, minus, quote, prime, starts_name, in_name, IsText, IsChar, IsName, value_on, IsDigits, IsNumber, IsToken, Ends, Stands, IsOpen, IsWrong, IsStuck, number_bits}
-use Rattle.bp_text_grammar.specs.Scanning.{text_rest, char_rest, text_at, char_at, Scanned, found, stuck, span, is_plain, is_kept, number_of, natural_found, negated, negative_found, word_found, quoted_found, Kind, name, digit, negative, text, char, mark, other, kind_of, scan_as, scan}
+use Rattle.bp_text_grammar.specs.Lexing.{blank, minus, quote, prime, starts_name, in_name, IsText, IsChar, IsName, value_on, IsDigits, IsNumber, IsToken, Ends, Stands, IsOpen, IsWrong, IsStuck}
+use Rattle.bp_text_grammar.specs.Scanning.{text_rest, char_rest, text_at, char_at, Scanned, found, stuck, span, is_plain, number_of, natural_found, negated, negative_found, word_found, quoted_found, Kind, name, digit, negative, text, char, mark, other, kind_of, scan_as, scan}
 use Rattle.bp_text_grammar.proofs.Quoted.{reads_text_rest, reads_char_rest, reads_text, reads_char, text_begins, char_begins}
-use Rattle.bp_text_grammar.proofs.Pieces.{Says, kind_says, kind_is, starts_in_name, span_is, span_only, plain_by, plain_is, kept_by, kept_if, number_token, number_ends}
+use Rattle.bp_text_grammar.proofs.Pieces.{Says, kind_says, kind_is, starts_in_name, span_is, span_only, plain_by, plain_is, number_kept, number_big, number_token, number_ends}
 
 pub scan_by : (k : Kind) (b : ℕ) (s : List ℕ) → Says k b → scan (b ∷ s) ≡ scan_as k b s
 unfolding scan
@@ -130,16 +129,6 @@ number_complete : (n : ℤ) (x u : List ℕ) → IsNumber n x → Follows (IsNot
 number_complete (pos n) x u is next = natural_complete n x u is next
 number_complete (negsuc n) x u (ds, cut, is) next = ap (λ y. scan (y ++ u)) cut ∙ negative_complete n ds u is next
 
--- a number is found as the token that it is
-kept_found : (n : ℤ) (u : List ℕ) → InRange number_bits n → found (number_of n) u ≡ found (Number n) u
-kept_found n u within = ap (λ t. found t u) (pick_true (is_kept n) (Number n) Big (kept_if n within))
-
-big_found : (n : ℤ) (u : List ℕ) → (InRange number_bits n → ⊥) → found (number_of n) u ≡ found Big u
-big_found n u out = ap (λ t. found t u) (pick_false (is_kept n) (Number n) Big (elim (is_or (is_kept n)) [
-  | inl e ↦ absurd (out (kept_by n e))
-  | inr e ↦ e
-]))
-
 word_complete : (w u : List ℕ) → IsName w → Follows (IsNot in_name) u → scan (w ++ u) ≡ found (Word w) u
 word_complete [] u name_is next = absurd name_is
 word_complete (b ∷ w) u (first, each) next =
@@ -161,8 +150,8 @@ char_complete c x u (o, t, v, cut, (b, e, h), l) =
 
 pub scan_complete : (t : Token) (x u : List ℕ) → IsToken t x → Ends t u → scan (x ++ u) ≡ found t u
 scan_complete (Word w) x u (same, is) next = ap (λ y. scan (y ++ u)) same ∙ word_complete w u is next
-scan_complete (Number n) x u (is, within) next = number_complete n x u is next ∙ kept_found n u within
-scan_complete Big x u (n, is, out) next = number_complete n x u is next ∙ big_found n u out
+scan_complete (Number n) x u (is, within) next = number_complete n x u is next ∙ ap (λ t. found t u) (number_kept n within)
+scan_complete Big x u (n, is, out) next = number_complete n x u is next ∙ ap (λ t. found t u) (number_big n out)
 scan_complete (Text w) x u is next = text_complete w x u is
 scan_complete (Char c) x u is next = char_complete c x u is
 scan_complete (Mark b) x u (same, is) next = ap (λ y. scan (y ++ u)) same ∙ scan_by mark b u is
