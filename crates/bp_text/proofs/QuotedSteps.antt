@@ -8,7 +8,7 @@ use Rattle.bp_text_grammar.specs.Scanning.{quoted_at, text_rest}
 use Rattle.bp_text_grammar.proofs.Quoted.{reads_quoted, quoted_begins}
 use Rattle.bp_text.specs.declared.stop.Stop.{Stop}
 use Rattle.bp_text.specs.declared.stop.Stop.TheVariants as stop
-use Rattle.bp_text.specs.Given.{Gives}
+use Rattle.bp_text.specs.Given.{ReadsTo}
 use Rattle.bp_text.proofs.Cursors.{tail_of, head_is}
 
 -- the bytes so far, and what is read of the rest, are what is read of all
@@ -51,8 +51,8 @@ bytes_bad front (c ∷ s) n total other is reading =
     ∙ (until_go_on Any Any (InQuotes quote) _ (quoted_at quote) (reads_quoted quote) (λ w u. whole w u) front (is_byte quote) tt quoted_begins c s (each-any (c ∷ s)) other
     ∙ after_bad (λ v t. onward (λ w x. whole w x) (front ++ v ∷ []) (text_rest t)) is)
 
-pub bytes_stop : (front s old new : List ℕ) (e : Stop) → Follows (IsNot (is_byte quote)) s → Gives (quoted_at quote) s new (Err e)
-    → Reading front s (text_rest old) → Gives text_rest old new (Err e)
+pub bytes_stop : (front s old new : List ℕ) (e : Stop) → Follows (IsNot (is_byte quote)) s → ReadsTo (quoted_at quote) s new (Err e)
+    → Reading front s (text_rest old) → ReadsTo text_rest old new (Err e)
 bytes_stop front s old new stop.More other is reading = bytes_more front s (text_rest old) other is reading
 bytes_stop front s old new stop.Bad other is reading = bytes_bad front s (length new) (text_rest old) other is reading
 bytes_stop front s old new stop.OutOfMemory other is reading = tt

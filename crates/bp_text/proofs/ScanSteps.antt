@@ -14,7 +14,7 @@ use Rattle.bp_text_grammar.specs.Scanning.{Scanned, found, stuck, span, is_plain
 use Rattle.bp_text_grammar.proofs.Pieces.{Says, span_is, plain_by, plain_is}
 use Rattle.bp_text_grammar.proofs.Scans.{scan_by}
 use Rattle.bp_text.specs.declared.token.Token.{Token}
-use Rattle.bp_text.specs.Given.{token_of, is_negative, IsNext, IsRun}
+use Rattle.bp_text.specs.Given.{token_of, is_negative, IsScanned, IsRun}
 use Rattle.bp_text.proofs.Cursors.{tail_of, head_cut}
 
 -- ---- runs
@@ -56,8 +56,8 @@ run_ends C s n e = subst (λ m. IsRun C s m) (sym (e ∙ same)) (run_is C s)
 
 -- ---- one token
 
-pub next_is : (o p : Scanned) (token : Token) (rest : List ℕ) → o ≡ p → IsNext p token rest → IsNext o token rest
-next_is o p token rest e is = subst (λ q. IsNext q token rest) (sym e) is
+pub next_is : (o p : Scanned) (token : Token) (rest : List ℕ) → o ≡ p → IsScanned p token rest → IsScanned o token rest
+next_is o p token rest e is = subst (λ q. IsScanned q token rest) (sym e) is
 
 pub scan_none : (s : List ℕ) → length s < 1 → scan s ≡ stuck grammar.Wrong
 unfolding scan
@@ -69,7 +69,7 @@ scan_first k s some says = ap scan (head_cut s some) ∙ scan_by k (get_or s 0 0
 
 -- the digits in front, which are no zero before others
 pub natural_is : (s x r : List ℕ) (n : ℕ) (token : Token) → IsRun is_ascii_digit s n → x ≡ take n s → r ≡ drop n s → is_plain x ≡ true
-    → ((z : ℤ) → IsNumber z x → token_of token ≡ number_of z) → IsNext (natural_found (span is_ascii_digit s)) token r
+    → ((z : ℤ) → IsNumber z x → token_of token ≡ number_of z) → IsScanned (natural_found (span is_ascii_digit s)) token r
 natural_is s x r n token (le, run) front back plain given =
     let parts : span is_ascii_digit s ≡ (x, r) = run ∙ (ap (λ y. (y, drop n s)) (sym front) ∙ ap (λ y. (x, y)) (sym back)) in
     let each : Each (Is is_ascii_digit) x = subst (λ (p : List ℕ × List ℕ). Each (Is is_ascii_digit) p.0) parts (span_is is_ascii_digit s).1 in
@@ -119,7 +119,7 @@ signed_run b s x r n cut (le, run) front back =
 
 pub negative_is : (b s x r : List ℕ) (n : ℕ) (token : Token) → b ≡ minus ∷ s → IsRun is_ascii_digit (tail_of b) n → x ≡ take (1 + n) b
     → r ≡ drop (1 + n) b → is_negative x ≡ true → ((z : ℤ) → IsNumber z x → token_of token ≡ number_of z)
-    → IsNext (negative_found (span is_ascii_digit s)) token r
+    → IsScanned (negative_found (span is_ascii_digit s)) token r
 negative_is b s x r n token cut run front back is given =
     let (ds, text, parts) = signed_run b s x r n cut run front back in
     let each : Each (Is is_ascii_digit) ds = subst (λ (p : List ℕ × List ℕ). Each (Is is_ascii_digit) p.0) parts (span_is is_ascii_digit s).1 in

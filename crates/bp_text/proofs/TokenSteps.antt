@@ -6,7 +6,7 @@ use Rattle.bp_text_grammar.specs.Scanning.{Scanned, found, stuck, scan, after_bl
 use Rattle.bp_text_grammar.proofs.Scans.{scan_sound}
 use Rattle.bp_text_grammar.proofs.Exact.{token_starts, blanks_off, lexes_some, lex_same}
 use Rattle.bp_text.specs.declared.token.Token.{Token}
-use Rattle.bp_text.specs.Given.{token_of, IsNext}
+use Rattle.bp_text.specs.Given.{token_of, IsScanned}
 
 -- with the bound n: the tokens so far, and those of the rest, are those of all
 abbrev pub Going : ℕ → List Stamped → List ℕ → List Stamped → Type 0
@@ -29,7 +29,7 @@ pub tokens_start : (s : List ℕ) → Going (length s) [] (after_blanks s) (lex 
 tokens_start s = lex_after (length s) s (omega arith)
 
 -- one token is scanned
-next_stamped : (o : Scanned) (n k : ℕ) (token : Token) (r : List ℕ) → IsNext o token r
+next_stamped : (o : Scanned) (n k : ℕ) (token : Token) (r : List ℕ) → IsScanned o token r
     → stamped o k (lex_within n) ≡ record { token = token_of token; left = k } ∷ lex_within n r
 next_stamped (found t u) n k token r (is, rest) =
     ap (λ z. record { token = z; left = k } ∷ lex_within n u) (sym is) ∙ ap (λ z. record { token = token_of token; left = k } ∷ lex_within n z) (sym rest)
@@ -37,10 +37,10 @@ next_stamped (stuck t) n k token r (is, rest) =
     ap (λ z. record { token = z; left = k } ∷ []) (sym is)
     ∙ ap (λ ts. record { token = token_of token; left = k } ∷ ts) (sym (ap (lex_within n) rest ∙ lex_none n))
 
-pub next_less : (s r : List ℕ) (token : Token) → 1 ≤ length s → IsNext (scan s) token r → length r < length s
+pub next_less : (s r : List ℕ) (token : Token) → 1 ≤ length s → IsScanned (scan s) token r → length r < length s
 next_less s r token some is = go (scan s) refl is
   where
-    go : (o : Scanned) → scan s ≡ o → IsNext o token r → length r < length s
+    go : (o : Scanned) → scan s ≡ o → IsScanned o token r → length r < length s
     go (found t u) e (same, rest) =
         let (x, cut, is_token, next) = scan_sound s t u e in
         let (b, y, full, first) = token_starts t x is_token in
@@ -50,7 +50,7 @@ next_less s r token some is = go (scan s) refl is
     go (stuck t) e (same, rest) = omega (arith, ap length rest)
 
 pub tokens_go : (n : ℕ) (front : List Stamped) (s r : List ℕ) (token : Token) (total : List Stamped) → 1 ≤ length s → length s ≤ n
-    → IsNext (scan s) token r → Going n front s total
+    → IsScanned (scan s) token r → Going n front s total
     → Going n (front ++ record { token = token_of token; left = length s } ∷ []) (after_blanks r) total
 tokens_go n front [] r token total some le is going = absurd (omega arith)
 tokens_go n front (b ∷ s) r token total some le is going =

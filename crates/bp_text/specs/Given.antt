@@ -12,11 +12,11 @@ use Rattle.bp_text.specs.declared.token.Token.TheVariants as tok
 use Rattle.bp_text.specs.declared.token.Placed.{Placed}
 
 -- A reading takes the bytes `old` to `new`, some at least. Where a byte is at fault it is the first of those that are left.
-abbrev pub Gives : {A : Type 0} → (List ℕ → Outcome ℕ (Unit {0}) A) → List ℕ → List ℕ → Result A Stop → Type 0
-Gives reads old new (Ok a) = (reads old ≡ whole a new) × (length new < length old)
-Gives reads old new (Err stop.More) = reads old ≡ more
-Gives reads old new (Err stop.Bad) = reads old ≡ bad (length new) tt
-Gives reads old new (Err stop.OutOfMemory) = Unit {0}
+abbrev pub ReadsTo : {A : Type 0} → (List ℕ → Outcome ℕ (Unit {0}) A) → List ℕ → List ℕ → Result A Stop → Type 0
+ReadsTo reads old new (Ok a) = (reads old ≡ whole a new) × (length new < length old)
+ReadsTo reads old new (Err stop.More) = reads old ≡ more
+ReadsTo reads old new (Err stop.Bad) = reads old ≡ bad (length new) tt
+ReadsTo reads old new (Err stop.OutOfMemory) = Unit {0}
 
 -- the token of the grammar
 abbrev pub token_of : Token → grammar.Token
@@ -34,9 +34,9 @@ abbrev pub stamp_of : Placed → Stamped
 stamp_of placed = record { token = token_of placed.token; left = placed.left }
 
 -- the token that was scanned, and what stands after it: nothing, where it takes all the rest
-abbrev pub IsNext : Scanned → Token → List ℕ → Type 0
-IsNext (found t r) token rest = (token_of token ≡ t) × (rest ≡ r)
-IsNext (stuck t) token rest = (token_of token ≡ t) × (rest ≡ [])
+abbrev pub IsScanned : Scanned → Token → List ℕ → Type 0
+IsScanned (found t r) token rest = (token_of token ≡ t) × (rest ≡ r)
+IsScanned (stuck t) token rest = (token_of token ≡ t) × (rest ≡ [])
 
 -- the longest run of a class has n bytes
 abbrev pub IsRun : (ℕ → Bool) → List ℕ → ℕ → Type 0

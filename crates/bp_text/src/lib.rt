@@ -7,4 +7,6 @@
 mod quoted;
 mod scanning;
 mod stop;
+#[cfg(test)]
+mod tests;
 mod token;

@@ -5,7 +5,7 @@ ghost use Rattle.std.specs.Prelude.{◌≡◌, ℕ, ◌<◌, IfOk, IfSome};
 ghost use Rattle.readers.specs.Reader.{one};
 ghost use Rattle.bp_text_grammar.specs.Lexing.{hex_digit, is_itself};
 ghost use Rattle.bp_text_grammar.specs.Scanning as scanning;
-ghost use Rattle.bp_text.specs.Given.{Gives};
+ghost use Rattle.bp_text.specs.Given.{ReadsTo};
 
 use crate::stop::Stop;
 use bp_value::Blob;
@@ -13,7 +13,7 @@ use std::alloc::Global;
 
 /// The bytes of a text, and its last quote.
 pub fn text_rest(rest: &mut &[u8], alloc: Global) -> Result<Blob, Stop>
-    ensures { Gives scanning.text_rest rest.old.now rest.new.now result }
+    ensures { ReadsTo scanning.text_rest rest.old.now rest.new.now result }
 {
     let mut bytes = Vec::new(alloc);
     'bytes: loop {
@@ -33,7 +33,7 @@ pub fn text_rest(rest: &mut &[u8], alloc: Global) -> Result<Blob, Stop>
 
 /// The byte of a char, and its last quote.
 pub fn char_rest(rest: &mut &[u8]) -> Result<u8, Stop>
-    ensures { Gives scanning.char_rest rest.old.now rest.new.now result }
+    ensures { ReadsTo scanning.char_rest rest.old.now rest.new.now result }
 {
     let byte = quoted_at(rest, b'\'')?;
     match *rest {
@@ -48,7 +48,7 @@ pub fn char_rest(rest: &mut &[u8]) -> Result<u8, Stop>
 
 // A byte in the quotes `quote`.
 fn quoted_at(rest: &mut &[u8], quote: u8) -> Result<u8, Stop>
-    ensures { Gives (scanning.quoted_at quote) rest.old.now rest.new.now result }
+    ensures { ReadsTo (scanning.quoted_at quote) rest.old.now rest.new.now result }
 {
     match *rest {
         [] => Err(Stop::More),
@@ -73,7 +73,7 @@ fn is_itself(byte: u8, quote: u8) -> bool
 
 // What follows a backslash.
 fn escaped_at(rest: &mut &[u8]) -> Result<u8, Stop>
-    ensures { Gives scanning.escaped_at rest.old.now rest.new.now result }
+    ensures { ReadsTo scanning.escaped_at rest.old.now rest.new.now result }
 {
     match *rest {
         [] => Err(Stop::More),
@@ -91,7 +91,7 @@ fn escaped_at(rest: &mut &[u8]) -> Result<u8, Stop>
 
 // Two hex digits.
 fn hex_at(rest: &mut &[u8]) -> Result<u8, Stop>
-    ensures { Gives scanning.hex_at rest.old.now rest.new.now result }
+    ensures { ReadsTo scanning.hex_at rest.old.now rest.new.now result }
 {
     let high = digit_at(rest)?;
     let low = digit_at(rest)?;
@@ -100,7 +100,7 @@ fn hex_at(rest: &mut &[u8]) -> Result<u8, Stop>
 
 // A hex digit.
 fn digit_at(rest: &mut &[u8]) -> Result<u8, Stop>
-    ensures gives { Gives (one hex_digit tt) rest.old.now rest.new.now result }
+    ensures gives { ReadsTo (one hex_digit tt) rest.old.now rest.new.now result }
     ensures small { IfOk result (λ digit. digit < 16) }
 {
     let [byte, later @ ..] = *rest else {

@@ -6,7 +6,7 @@ ghost use Rattle.bp_text_grammar.specs.Tokens.{Char, OpenChar, OpenText, Text, W
 ghost use Rattle.bp_text_grammar.specs.Lexing.{in_name, is_bracket, is_punctuation, is_separator, minus, starts_name, IsNumber, Lexes};
 ghost use Rattle.bp_text_grammar.specs.Scanning as scanning;
 ghost use Rattle.bp_text_grammar.specs.Scanning.{is_plain, natural_found, negative_found, number_of, quoted_found, span, stuck, word_found};
-ghost use Rattle.bp_text.specs.Given.{is_negative, stamp_of, token_of, IsNext, IsRun};
+ghost use Rattle.bp_text.specs.Given.{is_negative, stamp_of, token_of, IsScanned, IsRun};
 
 use crate::quoted::{char_rest, text_rest};
 use crate::stop::Stop;
@@ -44,7 +44,7 @@ fn after_blanks(bytes: &[u8]) -> &[u8]
 
 // The token in front. One that says that none stands there takes all the rest.
 fn next_token(rest: &mut &[u8], alloc: Global) -> Result<Token, OutOfMemory>
-    ensures { IfOk result (λ token. IsNext (scanning.scan rest.old.now) token rest.new.now) }
+    ensures { IfOk result (λ token. IsScanned (scanning.scan rest.old.now) token rest.new.now) }
 {
     let [first, later @ ..] = *rest else {
         return Ok(wrong(rest));
@@ -71,7 +71,7 @@ fn next_token(rest: &mut &[u8], alloc: Global) -> Result<Token, OutOfMemory>
 
 // No token stands in front, so all the rest is wrong.
 fn wrong(rest: &mut &[u8]) -> Token
-    ensures { IsNext (stuck Wrong) result rest.new.now }
+    ensures { IsScanned (stuck Wrong) result rest.new.now }
 {
     *rest = &[];
     Token::Wrong
@@ -80,7 +80,7 @@ fn wrong(rest: &mut &[u8]) -> Token
 // The longest run of name bytes.
 fn word(rest: &mut &[u8], alloc: Global) -> Result<Token, OutOfMemory>
     ensures { IfOk result (λ token.
-        IsNext (word_found (span in_name rest.old.now)) token rest.new.now) }
+        IsScanned (word_found (span in_name rest.old.now)) token rest.new.now) }
 {
     let bytes = *rest;
     let (name, later) = bytes.split_at(name_len(bytes));
@@ -90,7 +90,7 @@ fn word(rest: &mut &[u8], alloc: Global) -> Result<Token, OutOfMemory>
 
 // The number of the digits in front. A zero stands alone.
 fn natural(rest: &mut &[u8]) -> Token
-    ensures { IsNext (natural_found (span is_ascii_digit rest.old.now)) result rest.new.now }
+    ensures { IsScanned (natural_found (span is_ascii_digit rest.old.now)) result rest.new.now }
 {
     let bytes = *rest;
     let (digits, later) = bytes.split_at(digits_len(bytes));
@@ -105,7 +105,7 @@ fn natural(rest: &mut &[u8]) -> Token
 fn negative(rest: &mut &[u8]) -> Token
     requires { 1 ≤ length rest.old.now }
     ensures { (s : List ℕ) → rest.old.now ≡ minus ∷ s
-        → IsNext (negative_found (span is_ascii_digit s)) result rest.new.now }
+        → IsScanned (negative_found (span is_ascii_digit s)) result rest.new.now }
 {
     let bytes = *rest;
     let (signed, later) = bytes.split_at(1 + digits_len(&bytes[1..]));
@@ -153,7 +153,7 @@ fn number(text: &[u8]) -> Token
 // A text, after its first quote.
 fn text(rest: &mut &[u8], alloc: Global) -> Result<Token, OutOfMemory>
     ensures { IfOk result (λ token.
-        IsNext (quoted_found Text OpenText (scanning.text_rest rest.old.now))
+        IsScanned (quoted_found Text OpenText (scanning.text_rest rest.old.now))
         token rest.new.now) }
 {
     match text_rest(rest, alloc) {
@@ -170,7 +170,7 @@ fn text(rest: &mut &[u8], alloc: Global) -> Result<Token, OutOfMemory>
 // A char, after its first quote.
 fn char(rest: &mut &[u8]) -> Result<Token, OutOfMemory>
     ensures { IfOk result (λ token.
-        IsNext (quoted_found Char OpenChar (scanning.char_rest rest.old.now))
+        IsScanned (quoted_found Char OpenChar (scanning.char_rest rest.old.now))
         token rest.new.now) }
 {
     match char_rest(rest) {

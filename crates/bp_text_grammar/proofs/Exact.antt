@@ -6,7 +6,7 @@ use Rattle.readers.specs.Reader.{Is, Follows, Begins}
 use Rattle.readers.proofs.Readers.{each-join}
 use Rattle.readers.proofs.Leaves.{is_or, pick_true, pick_false}
 use Rattle.bp_text_grammar.specs.Tokens.{Token, Word, Number, Big, Text, Char, Mark, Wrong, OpenText, OpenChar}
-use Rattle.bp_text_grammar.specs.Lexing.{blank, quote, prime, is_byte, IsText, IsChar, IsName, IsDigits, IsNumber, IsToken, IsOpen, IsStuck, Stamped, AreBlanks, Foremost, Lexes}
+use Rattle.bp_text_grammar.specs.Lexing.{blank, quote, prime, is_byte, IsQuotedText, IsQuotedChar, IsWord, IsDigits, IsNumber, IsToken, IsOpen, IsStuck, Stamped, AreBlanks, Foremost, Lexes}
 use Rattle.bp_text_grammar.specs.Scanning.{Scanned, found, stuck, scan, after_blanks, stamped, from, lex_within, lex}
 use Rattle.bp_text_grammar.proofs.Quoted.{text_begins, char_begins}
 use Rattle.bp_text_grammar.proofs.Scans.{scan_sound, scan_complete, scan_stuck, stuck_scan}
@@ -25,7 +25,7 @@ number_starts : (n : ℤ) (x : List ℕ) → IsNumber n x → Starts x
 number_starts (pos n) x is = digits_start n x is
 number_starts (negsuc n) x (ds, cut, is) = (0x2D, ds, cut, λ e. grind arith)
 
-word_starts : (w : List ℕ) → IsName w → Starts w
+word_starts : (w : List ℕ) → IsWord w → Starts w
 word_starts [] is = absurd is
 word_starts (b ∷ w) (first, each) = (b, w, refl, λ e. grind arith)
 
@@ -51,8 +51,8 @@ open_starts q L begins other (b ∷ y) (some, (a, c, x, l)) =
 pub stuck_starts : (t : Token) (y : List ℕ) → IsStuck t y → Starts y
 stuck_starts Wrong [] is = absurd is
 stuck_starts Wrong (b ∷ s) (some, none, no_text, no_char) = (b, s, refl, some)
-stuck_starts OpenText y is = open_starts quote IsText text_begins (λ e. grind arith) y is
-stuck_starts OpenChar y is = open_starts prime IsChar char_begins (λ e. grind arith) y is
+stuck_starts OpenText y is = open_starts quote IsQuotedText text_begins (λ e. grind arith) y is
+stuck_starts OpenChar y is = open_starts prime IsQuotedChar char_begins (λ e. grind arith) y is
 stuck_starts (Word w) y is = absurd is
 stuck_starts (Number n) y is = absurd is
 stuck_starts Big y is = absurd is

@@ -9,7 +9,7 @@ use Rattle.readers.specs.Until.{Until}
 use Rattle.readers.proofs.Readers.{each-join}
 use Rattle.readers.proofs.Leaves.{is_or, pick_true, pick_false, this_same}
 use Rattle.bp_text_grammar.specs.Tokens.{Token, Word, Number, Big, Text, Char, Mark, Wrong, OpenText, OpenChar}
-use Rattle.bp_text_grammar.specs.Lexing.{blank, quote, prime, backslash, hex_mark, in_name, hex_digit, IsHex, is_quoting, is_printable, is_itself, InQuotes, is_byte, IsToken, Ends, Stamped, AreBlanks, Lexes}
+use Rattle.bp_text_grammar.specs.Lexing.{blank, quote, prime, backslash, hex_mark, in_name, hex_digit, IsHex, is_quoting, is_printable, is_itself, InQuotes, is_byte, IsToken, EndsBefore, Stamped, AreBlanks, Lexes}
 use Rattle.bp_text_grammar.specs.Scanning.{lex}
 use Rattle.bp_text_grammar.specs.Printed.{escaped, quoted_text, quoted_char, Laid}
 use Rattle.bp_text_grammar.proofs.Exact.{lexes_lex}
@@ -100,7 +100,7 @@ no_digit [] next = tt
 no_digit (b ∷ r) next = grind arith
 
 -- a byte of no name, or a blank, follows every token
-pub ends_apart : (t : Token) (r : List ℕ) → Follows (IsNot in_name) r → Ends t r
+pub ends_apart : (t : Token) (r : List ℕ) → Follows (IsNot in_name) r → EndsBefore t r
 ends_apart (Word w) r next = next
 ends_apart (Number n) r next = no_digit r next
 ends_apart Big r next = no_digit r next
@@ -111,12 +111,12 @@ ends_apart Wrong r next = tt
 ends_apart OpenText r next = tt
 ends_apart OpenChar r next = tt
 
-pub ends_blank : (t : Token) (r : List ℕ) → Ends t (blank ∷ r)
+pub ends_blank : (t : Token) (r : List ℕ) → EndsBefore t (blank ∷ r)
 ends_blank t r = ends_apart t (blank ∷ r) refl
 
 -- ---- tokens one after another
 
-pub laid_next : (t : Token) (ts : List Token) (x r : List ℕ) → IsToken t x → Ends t r → Laid ts r → Laid (t ∷ ts) (x ++ r)
+pub laid_next : (t : Token) (ts : List Token) (x r : List ℕ) → IsToken t x → EndsBefore t r → Laid ts r → Laid (t ∷ ts) (x ++ r)
 laid_next t ts x r is next laid = (x, [], r, refl, is, next, tt, laid)
 
 pub laid_spaced : (t : Token) (ts : List Token) (x r : List ℕ) → IsToken t x → Laid ts r → Laid (t ∷ ts) (x ++ blank ∷ r)

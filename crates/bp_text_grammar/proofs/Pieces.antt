@@ -6,7 +6,7 @@ use Rattle.bp_value.specs.Fits.{InRange}
 use Rattle.readers.specs.Reader.{Each, Is, IsNot, Follows}
 use Rattle.readers.proofs.Leaves.{is_or, pick_true, pick_false}
 use Rattle.bp_text_grammar.specs.Tokens.{Number, Big}
-use Rattle.bp_text_grammar.specs.Lexing.{minus, quote, prime, digit_zero, starts_name, in_name, is_bracket, is_separator, is_punctuation, IsPlain, IsNumber, IsToken, Ends, number_bits}
+use Rattle.bp_text_grammar.specs.Lexing.{minus, quote, prime, digit_zero, starts_name, in_name, is_bracket, is_separator, is_punctuation, IsPlain, IsNumber, IsToken, EndsBefore, number_bits}
 use Rattle.bp_text_grammar.specs.Scanning.{Kind, name, digit, negative, text, char, mark, other, kind_of, span, is_plain, is_kept, number_of}
 
 -- ---- the first byte
@@ -157,8 +157,8 @@ number_token n x is = elim (is_or (is_kept n)) [
     out : is_kept n ≡ false → InRange number_bits n → ⊥
     out e within = let kept : is_kept n ≡ true = kept_if n within in cc
 
-pub number_ends : (n : ℤ) (r : List ℕ) → Follows (IsNot is_ascii_digit) r → Ends (number_of n) r
+pub number_ends : (n : ℤ) (r : List ℕ) → Follows (IsNot is_ascii_digit) r → EndsBefore (number_of n) r
 number_ends n r next = elim (is_or (is_kept n)) [
-  | inl e ↦ subst (λ t. Ends t r) (sym (pick_true (is_kept n) (Number n) Big e)) next
-  | inr e ↦ subst (λ t. Ends t r) (sym (pick_false (is_kept n) (Number n) Big e)) next
+  | inl e ↦ subst (λ t. EndsBefore t r) (sym (pick_true (is_kept n) (Number n) Big e)) next
+  | inr e ↦ subst (λ t. EndsBefore t r) (sym (pick_false (is_kept n) (Number n) Big e)) next
 ]

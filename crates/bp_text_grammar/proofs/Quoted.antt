@@ -6,7 +6,7 @@ use Rattle.readers.proofs.Readers.{follows-any, right_mapped}
 use Rattle.readers.proofs.Leaves.{is_or, pick_true, plain_then, plain_one, right_branch, this_is, this_same, then_begins, one_begins}
 use Rattle.readers.proofs.Runs.{kept_is}
 use Rattle.readers.proofs.Until.{plain_until}
-use Rattle.bp_text_grammar.specs.Lexing.{quote, prime, backslash, hex_mark, hex_digit, IsHex, IsEscape, is_quoting, is_itself, InQuotes, is_byte, IsText, IsChar}
+use Rattle.bp_text_grammar.specs.Lexing.{quote, prime, backslash, hex_mark, hex_digit, IsHex, IsEscape, is_quoting, is_itself, InQuotes, is_byte, IsQuotedText, IsQuotedChar}
 use Rattle.bp_text_grammar.specs.Scanning.{hex_at, escaped_at, escape_at, quoted_at, text_rest, char_rest, text_at, char_at}
 
 -- a language that anything may follow, and its reader
@@ -118,19 +118,19 @@ reads_char_rest =
     (λ c. right_mapped Any Any (λ v. c) (One (this prime)) Plain (one (this prime) tt) (reads_this prime))
     (λ c. (c, prime ∷ [], (tt, refl, this_text prime)))
 
-pub reads_text : Reads IsText text_at
+pub reads_text : Reads IsQuotedText text_at
 reads_text =
     reads_then (One (this quote)) (one (this quote) tt) (λ u. Until (is_byte quote) (InQuotes quote)) (λ u. text_rest) (reads_this quote)
     (λ u. reads_text_rest) (λ u. ([], quote ∷ [], (quote, refl, refl)))
 
-pub reads_char : Reads IsChar char_at
+pub reads_char : Reads IsQuotedChar char_at
 reads_char =
     reads_then (One (this prime)) (one (this prime) tt) (λ u. CharRest) (λ u. char_rest) (reads_this prime) (λ u. reads_char_rest)
     (λ u. (quote, backslash ∷ quote ∷ prime ∷ [], (quote, backslash ∷ quote ∷ [], prime ∷ [], refl, inl escape_text, (tt, refl, this_text prime))))
 
 -- what they begin with
-pub text_begins : Begins (Is (is_byte quote)) IsText
+pub text_begins : Begins (Is (is_byte quote)) IsQuotedText
 text_begins = then_begins (Is (is_byte quote)) (One (this quote)) (λ u. Until (is_byte quote) (InQuotes quote)) (this_begins quote)
 
-pub char_begins : Begins (Is (is_byte prime)) IsChar
+pub char_begins : Begins (Is (is_byte prime)) IsQuotedChar
 char_begins = then_begins (Is (is_byte prime)) (One (this prime)) (λ u. CharRest) (this_begins prime)

@@ -6,7 +6,7 @@ use Rattle.readers.proofs.Readers.{each-any, follows-any}
 use Rattle.readers.proofs.Leaves.{is_or, pick_true, pick_false, this_is, this_same}
 use Rattle.readers.proofs.Places.{told_more, only_more}
 use Rattle.bp_text_grammar.specs.Tokens.{Token, Word, Number, Big, Text, Char, Mark, Wrong, OpenText, OpenChar}
-use Rattle.bp_text_grammar.specs.Lexing.{blank, minus, quote, prime, starts_name, in_name, IsText, IsChar, IsName, value_on, IsDigits, IsNumber, IsToken, Ends, Stands, IsOpen, IsWrong, IsStuck}
+use Rattle.bp_text_grammar.specs.Lexing.{blank, minus, quote, prime, starts_name, in_name, IsQuotedText, IsQuotedChar, IsWord, value_on, IsDigits, IsNumber, IsToken, EndsBefore, BeginsToken, IsOpen, IsWrong, IsStuck}
 use Rattle.bp_text_grammar.specs.Scanning.{text_rest, char_rest, text_at, char_at, Scanned, found, stuck, span, is_plain, number_of, natural_found, negated, negative_found, word_found, quoted_found, Kind, name, digit, negative, text, char, mark, other, kind_of, scan_as, scan}
 use Rattle.bp_text_grammar.proofs.Quoted.{reads_text_rest, reads_char_rest, reads_text, reads_char, text_begins, char_begins}
 use Rattle.bp_text_grammar.proofs.Pieces.{Says, kind_says, kind_is, starts_in_name, span_is, span_only, plain_by, plain_is, number_kept, number_big, number_token, number_ends}
@@ -18,7 +18,7 @@ scan_by k b s is = ap (λ j. scan_as j b s) (kind_is k b is)
 -- ---- what is found stands in front
 
 abbrev pub Scans : List ℕ → Token → List ℕ → Type 0
-Scans s t r = (x : List ℕ) × (s ≡ x ++ r) × IsToken t x × Ends t r
+Scans s t r = (x : List ℕ) × (s ≡ x ++ r) × IsToken t x × EndsBefore t r
 
 same_found : {s : List ℕ} {t u : Token} {r v : List ℕ} → found t r ≡ found u v → Scans s t r → Scans s u v
 same_found {s = s} {t = t} {u = u} {r = r} {v = v} e is =
@@ -30,7 +30,7 @@ name_scans : (b : ℕ) (s : List ℕ) → Is starts_name b → Scans (b ∷ s) (
 name_scans b s is =
     let (cut, each, next) = span_is in_name (b ∷ s) in
     let first : span in_name (b ∷ s) ≡ (b ∷ (span in_name s).0, (span in_name s).1) = pick_true (in_name b) _ _ (starts_in_name b is) in
-    ((span in_name (b ∷ s)).0, cut, (refl, subst (λ (p : List ℕ × List ℕ). IsName p.0) (sym first) (is, (span_is in_name s).1)), next)
+    ((span in_name (b ∷ s)).0, cut, (refl, subst (λ (p : List ℕ × List ℕ). IsWord p.0) (sym first) (is, (span_is in_name s).1)), next)
 
 abbrev digits_of : List ℕ → List ℕ × List ℕ
 digits_of s = span is_ascii_digit s
@@ -129,26 +129,26 @@ number_complete : (n : ℤ) (x u : List ℕ) → IsNumber n x → Follows (IsNot
 number_complete (pos n) x u is next = natural_complete n x u is next
 number_complete (negsuc n) x u (ds, cut, is) next = ap (λ y. scan (y ++ u)) cut ∙ negative_complete n ds u is next
 
-word_complete : (w u : List ℕ) → IsName w → Follows (IsNot in_name) u → scan (w ++ u) ≡ found (Word w) u
+word_complete : (w u : List ℕ) → IsWord w → Follows (IsNot in_name) u → scan (w ++ u) ≡ found (Word w) u
 word_complete [] u name_is next = absurd name_is
 word_complete (b ∷ w) u (first, each) next =
     scan_by name b (w ++ u) first ∙ ap word_found (span_only in_name (b ∷ w) u (starts_in_name b first, each) next)
 
-text_complete : (w x u : List ℕ) → IsText w x → scan (x ++ u) ≡ found (Text w) u
+text_complete : (w x u : List ℕ) → IsQuotedText w x → scan (x ++ u) ≡ found (Text w) u
 text_complete w x u (o, t, v, cut, (b, e, h), l) =
     let first : b ≡ quote = this_is quote b o h in
     let whole_x : x ≡ quote ∷ v = cut ∙ (ap (λ y. y ++ v) e ∙ ap (λ c. c ∷ v) first) in
     ap (λ y. scan (y ++ u)) whole_x
     ∙ (scan_by text quote (v ++ u) refl ∙ ap (quoted_found Text OpenText) (reads_text_rest.complete w v u l (follows-any u)))
 
-char_complete : (c : ℕ) (x u : List ℕ) → IsChar c x → scan (x ++ u) ≡ found (Char c) u
+char_complete : (c : ℕ) (x u : List ℕ) → IsQuotedChar c x → scan (x ++ u) ≡ found (Char c) u
 char_complete c x u (o, t, v, cut, (b, e, h), l) =
     let first : b ≡ prime = this_is prime b o h in
     let whole_x : x ≡ prime ∷ v = cut ∙ (ap (λ y. y ++ v) e ∙ ap (λ d. d ∷ v) first) in
     ap (λ y. scan (y ++ u)) whole_x
     ∙ (scan_by char prime (v ++ u) refl ∙ ap (quoted_found Char OpenChar) (reads_char_rest.complete c v u l (follows-any u)))
 
-pub scan_complete : (t : Token) (x u : List ℕ) → IsToken t x → Ends t u → scan (x ++ u) ≡ found t u
+pub scan_complete : (t : Token) (x u : List ℕ) → IsToken t x → EndsBefore t u → scan (x ++ u) ≡ found t u
 scan_complete (Word w) x u (same, is) next = ap (λ y. scan (y ++ u)) same ∙ word_complete w u is next
 scan_complete (Number n) x u (is, within) next = number_complete n x u is next ∙ ap (λ t. found t u) (number_kept n within)
 scan_complete Big x u (n, is, out) next = number_complete n x u is next ∙ ap (λ t. found t u) (number_big n out)
@@ -161,29 +161,29 @@ scan_complete OpenChar x u is next = absurd is
 
 -- ---- where no token stands
 
-pub open_text_scan : (y : List ℕ) → IsOpen IsText y → scan y ≡ stuck OpenText
+pub open_text_scan : (y : List ℕ) → IsOpen IsQuotedText y → scan y ≡ stuck OpenText
 open_text_scan [] (some, front) = absurd (omega arith)
 open_text_scan (b ∷ s) (some, (w, c, x, l)) =
     let (d, t, cut, is) = text_begins w ((b ∷ s) ++ c ∷ x) l in
     let bd : b ≡ d = cc in
     let first : b ≡ quote = grind arith in
-    let all : text_at (b ∷ s) ≡ more = only_more Any IsText _ text_at reads_text (b ∷ s) (each-any (b ∷ s)) (w, c, x, l) in
+    let all : text_at (b ∷ s) ≡ more = only_more Any IsQuotedText _ text_at reads_text (b ∷ s) (each-any (b ∷ s)) (w, c, x, l) in
     scan_by text b s first
     ∙ ap (quoted_found Text OpenText) (subst (λ z. text_at (z ∷ s) ≡ more) first all)
 
-pub open_char_scan : (y : List ℕ) → IsOpen IsChar y → scan y ≡ stuck OpenChar
+pub open_char_scan : (y : List ℕ) → IsOpen IsQuotedChar y → scan y ≡ stuck OpenChar
 open_char_scan [] (some, front) = absurd (omega arith)
 open_char_scan (b ∷ s) (some, (w, c, x, l)) =
     let (d, t, cut, is) = char_begins w ((b ∷ s) ++ c ∷ x) l in
     let bd : b ≡ d = cc in
     let first : b ≡ prime = grind arith in
-    let all : char_at (b ∷ s) ≡ more = only_more Any IsChar _ char_at reads_char (b ∷ s) (each-any (b ∷ s)) (w, c, x, l) in
+    let all : char_at (b ∷ s) ≡ more = only_more Any IsQuotedChar _ char_at reads_char (b ∷ s) (each-any (b ∷ s)) (w, c, x, l) in
     scan_by char b s first
     ∙ ap (quoted_found Char OpenChar) (subst (λ z. char_at (z ∷ s) ≡ more) first all)
 
 -- what is wrong, or left open
 abbrev StuckBy : Token → List ℕ → Type 0
-StuckBy t y = (t ≡ Wrong) ⊎ (((t ≡ OpenText) × IsOpen IsText y) ⊎ ((t ≡ OpenChar) × IsOpen IsChar y))
+StuckBy t y = (t ≡ Wrong) ⊎ (((t ≡ OpenText) × IsOpen IsQuotedText y) ⊎ ((t ≡ OpenChar) × IsOpen IsQuotedChar y))
 
 text_stuck : (s : List ℕ) (t : Token) → quoted_found Text OpenText (text_rest s) ≡ stuck t → StuckBy t (quote ∷ s)
 text_stuck s t h = go (text_rest s) refl
@@ -193,7 +193,7 @@ text_stuck s t h = go (text_rest s) refl
     go more e =
         let is : stuck OpenText ≡ stuck t = sym (ap (quoted_found Text OpenText) e) ∙ h in
         let same : t ≡ OpenText = cc in
-        inr (inl (same, (omega arith, told_more Any IsText _ text_at reads_text (quote ∷ s) (each-any (quote ∷ s)) e)))
+        inr (inl (same, (omega arith, told_more Any IsQuotedText _ text_at reads_text (quote ∷ s) (each-any (quote ∷ s)) e)))
     go (bad n w) e =
         let is : stuck Wrong ≡ stuck t = sym (ap (quoted_found Text OpenText) e) ∙ h in
         let same : t ≡ Wrong = cc in
@@ -207,7 +207,7 @@ char_stuck s t h = go (char_rest s) refl
     go more e =
         let is : stuck OpenChar ≡ stuck t = sym (ap (quoted_found Char OpenChar) e) ∙ h in
         let same : t ≡ OpenChar = cc in
-        inr (inr (same, (omega arith, told_more Any IsChar _ char_at reads_char (prime ∷ s) (each-any (prime ∷ s)) e)))
+        inr (inr (same, (omega arith, told_more Any IsQuotedChar _ char_at reads_char (prime ∷ s) (each-any (prime ∷ s)) e)))
     go (bad n w) e =
         let is : stuck Wrong ≡ stuck t = sym (ap (quoted_found Char OpenChar) e) ∙ h in
         let same : t ≡ Wrong = cc in
@@ -252,15 +252,15 @@ scan_stuck b s t some h = elim (stuck_by b s t h) [
   | inr (inr (e, is)) ↦ subst (λ u. IsStuck u (b ∷ s)) (sym e) is
 ]
   where
-    wrong : t ≡ Wrong → Stands (b ∷ s) → ⊥
+    wrong : t ≡ Wrong → BeginsToken (b ∷ s) → ⊥
     wrong e (u, x, r, cut, is, next) =
         let other_way : scan (b ∷ s) ≡ found u r = ap scan cut ∙ scan_complete u x r is next in
         cc
 
-    no_text : t ≡ Wrong → IsOpen IsText (b ∷ s) → ⊥
+    no_text : t ≡ Wrong → IsOpen IsQuotedText (b ∷ s) → ⊥
     no_text e is = let other_way : scan (b ∷ s) ≡ stuck OpenText = open_text_scan (b ∷ s) is in let clash : stuck Wrong ≡ stuck OpenText = cc in cc
 
-    no_char : t ≡ Wrong → IsOpen IsChar (b ∷ s) → ⊥
+    no_char : t ≡ Wrong → IsOpen IsQuotedChar (b ∷ s) → ⊥
     no_char e is = let other_way : scan (b ∷ s) ≡ stuck OpenChar = open_char_scan (b ∷ s) is in let clash : stuck Wrong ≡ stuck OpenChar = cc in cc
 
 wrong_scan : (b : ℕ) (s : List ℕ) → IsWrong (b ∷ s) → scan (b ∷ s) ≡ stuck Wrong

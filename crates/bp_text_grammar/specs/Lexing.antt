@@ -92,17 +92,17 @@ abbrev pub is_byte : ℕ → ℕ → Bool
 is_byte c b = nat_eq b c
 
 -- a text with its quotes, and a char with its own
-abbrev pub IsText : List ℕ → List ℕ → Type 0
-IsText bs s = Then (One (this quote)) (λ u. Until (is_byte quote) (InQuotes quote)) bs s
+abbrev pub IsQuotedText : List ℕ → List ℕ → Type 0
+IsQuotedText bs s = Then (One (this quote)) (λ u. Until (is_byte quote) (InQuotes quote)) bs s
 
-abbrev pub IsChar : ℕ → List ℕ → Type 0
-IsChar b s = Then (One (this prime)) (λ u. Then (InQuotes prime) (λ c. Mapped (λ v. c) (One (this prime)))) b s
+abbrev pub IsQuotedChar : ℕ → List ℕ → Type 0
+IsQuotedChar b s = Then (One (this prime)) (λ u. Then (InQuotes prime) (λ c. Mapped (λ v. c) (One (this prime)))) b s
 
 -- ---- names and numbers
 
-abbrev pub IsName : List ℕ → Type 0
-IsName [] = ⊥
-IsName (b ∷ bs) = Is starts_name b × Each (Is in_name) bs
+abbrev pub IsWord : List ℕ → Type 0
+IsWord [] = ⊥
+IsWord (b ∷ bs) = Is starts_name b × Each (Is in_name) bs
 
 -- the number that digits go on to, after those of n
 abbrev pub value_on : ℕ → List ℕ → ℕ
@@ -130,31 +130,31 @@ number_bits = 63
 
 -- the bytes x are the token
 abbrev pub IsToken : Token → List ℕ → Type 0
-IsToken (Word w) x = (x ≡ w) × IsName w
+IsToken (Word w) x = (x ≡ w) × IsWord w
 IsToken (Number n) x = IsNumber n x × InRange number_bits n
 IsToken Big x = (n : ℤ) × IsNumber n x × (InRange number_bits n → ⊥)
-IsToken (Text w) x = IsText w x
-IsToken (Char b) x = IsChar b x
+IsToken (Text w) x = IsQuotedText w x
+IsToken (Char b) x = IsQuotedChar b x
 IsToken (Mark b) x = (x ≡ b ∷ []) × Is is_punctuation b
 IsToken Wrong x = ⊥
 IsToken OpenText x = ⊥
 IsToken OpenChar x = ⊥
 
 -- what follows may not go on with the token
-abbrev pub Ends : Token → List ℕ → Type 0
-Ends (Word w) r = Follows (IsNot in_name) r
-Ends (Number n) r = Follows (IsNot is_ascii_digit) r
-Ends Big r = Follows (IsNot is_ascii_digit) r
-Ends (Text w) r = Unit {0}
-Ends (Char b) r = Unit {0}
-Ends (Mark b) r = Unit {0}
-Ends Wrong r = Unit {0}
-Ends OpenText r = Unit {0}
-Ends OpenChar r = Unit {0}
+abbrev pub EndsBefore : Token → List ℕ → Type 0
+EndsBefore (Word w) r = Follows (IsNot in_name) r
+EndsBefore (Number n) r = Follows (IsNot is_ascii_digit) r
+EndsBefore Big r = Follows (IsNot is_ascii_digit) r
+EndsBefore (Text w) r = Unit {0}
+EndsBefore (Char b) r = Unit {0}
+EndsBefore (Mark b) r = Unit {0}
+EndsBefore Wrong r = Unit {0}
+EndsBefore OpenText r = Unit {0}
+EndsBefore OpenChar r = Unit {0}
 
 -- a token stands in front
-abbrev pub Stands : List ℕ → Type 0
-Stands y = (t : Token) × (x : List ℕ) × (r : List ℕ) × (y ≡ x ++ r) × IsToken t x × Ends t r
+abbrev pub BeginsToken : List ℕ → Type 0
+BeginsToken y = (t : Token) × (x : List ℕ) × (r : List ℕ) × (y ≡ x ++ r) × IsToken t x × EndsBefore t r
 
 -- the bytes begin a text of the language, and the end of all leaves it open
 abbrev pub IsOpen : {A : Type 0} → (A → List ℕ → Type 0) → List ℕ → Type 0
@@ -163,13 +163,13 @@ IsOpen L y = (1 ≤ length y) × IsProperFront L y
 -- something else than a blank and than a token stands in front
 abbrev pub IsWrong : List ℕ → Type 0
 IsWrong [] = ⊥
-IsWrong (b ∷ s) = (b ≢ blank) × (Stands (b ∷ s) → ⊥) × (IsOpen IsText (b ∷ s) → ⊥) × (IsOpen IsChar (b ∷ s) → ⊥)
+IsWrong (b ∷ s) = (b ≢ blank) × (BeginsToken (b ∷ s) → ⊥) × (IsOpen IsQuotedText (b ∷ s) → ⊥) × (IsOpen IsQuotedChar (b ∷ s) → ⊥)
 
 -- y is all that is left, and no token stands in front of it
 abbrev pub IsStuck : Token → List ℕ → Type 0
 IsStuck Wrong y = IsWrong y
-IsStuck OpenText y = IsOpen IsText y
-IsStuck OpenChar y = IsOpen IsChar y
+IsStuck OpenText y = IsOpen IsQuotedText y
+IsStuck OpenChar y = IsOpen IsQuotedChar y
 IsStuck (Word w) y = ⊥
 IsStuck (Number n) y = ⊥
 IsStuck Big y = ⊥
@@ -189,7 +189,7 @@ AreBlanks s = Each (λ b. b ≡ blank) s
 
 -- the token stands in front of y, and the property P has what stands after it
 abbrev pub Foremost : Token → (List ℕ → Type 0) → List ℕ → Type 0
-Foremost t P y = (x : List ℕ) × (r : List ℕ) × (y ≡ x ++ r) × IsToken t x × Ends t r × P r
+Foremost t P y = (x : List ℕ) × (r : List ℕ) × (y ≡ x ++ r) × IsToken t x × EndsBefore t r × P r
 
 -- A text has the tokens. Where none stands the last one says so.
 abbrev pub Lexes : List Stamped → List ℕ → Type 0

@@ -3,7 +3,7 @@ use Rattle.std.specs.Prelude.{◌≡◌, ℕ, ℤ, ◌/◌, ◌%◌, true, if◌
 use Rattle.std.specs.List.{flat_map}
 use Rattle.std.specs.Fmt.{signed_decimal, digit_glyph}
 use Rattle.bp_text_grammar.specs.Tokens.{Token}
-use Rattle.bp_text_grammar.specs.Lexing.{quote, prime, backslash, hex_mark, is_quoting, is_printable, IsToken, Ends, AreBlanks}
+use Rattle.bp_text_grammar.specs.Lexing.{quote, prime, backslash, hex_mark, is_quoting, is_printable, IsToken, EndsBefore, AreBlanks}
 
 -- a byte in quotes: both quotes and the backslash after a backslash, another printable byte as itself, and the others as two hex digits
 abbrev pub escaped : ℕ → List ℕ
@@ -24,4 +24,4 @@ decimal_text n = signed_decimal n
 -- s is bytes of the tokens one after another, with blanks after each, and some where the next byte would go on with the token
 abbrev pub Laid : List Token → List ℕ → Type 0
 Laid [] s = s ≡ []
-Laid (t ∷ ts) s = (x : List ℕ) × (b : List ℕ) × (r : List ℕ) × (s ≡ x ++ (b ++ r)) × IsToken t x × Ends t (b ++ r) × AreBlanks b × Laid ts r
+Laid (t ∷ ts) s = (x : List ℕ) × (b : List ℕ) × (r : List ℕ) × (s ≡ x ++ (b ++ r)) × IsToken t x × EndsBefore t (b ++ r) × AreBlanks b × Laid ts r

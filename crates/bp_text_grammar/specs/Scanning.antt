@@ -8,32 +8,32 @@ use Rattle.bp_text_grammar.specs.Lexing.{blank, minus, quote, prime, backslash, 
 
 -- ---- the readers of what stands in quotes
 
-abbrev pub Reading : Type 0 → Type 0
-Reading A = List ℕ → Outcome ℕ (Unit {0}) A
+abbrev pub ByteReader : Type 0 → Type 0
+ByteReader A = List ℕ → Outcome ℕ (Unit {0}) A
 
-abbrev pub hex_at : Reading ℕ
+abbrev pub hex_at : ByteReader ℕ
 hex_at s = after (one hex_digit tt s) (λ high u. mapped (λ low. 16 * high + low) (one hex_digit tt u))
 
-abbrev pub escaped_at : Reading ℕ
+abbrev pub escaped_at : ByteReader ℕ
 escaped_at s = branch (is_byte hex_mark) (λ t. after (one (this hex_mark) tt t) (λ v. hex_at)) (one (kept is_quoting) tt) s
 
-abbrev pub escape_at : Reading ℕ
+abbrev pub escape_at : ByteReader ℕ
 escape_at s = after (one (this backslash) tt s) (λ u. escaped_at)
 
-abbrev pub quoted_at : ℕ → Reading ℕ
+abbrev pub quoted_at : ℕ → ByteReader ℕ
 quoted_at q s = branch (is_byte backslash) escape_at (one (kept (is_itself q)) tt) s
 
 -- after the first quote
-abbrev pub text_rest : Reading (List ℕ)
+abbrev pub text_rest : ByteReader (List ℕ)
 text_rest s = until (is_byte quote) tt (quoted_at quote) (length s) s
 
-abbrev pub char_rest : Reading ℕ
+abbrev pub char_rest : ByteReader ℕ
 char_rest s = after (quoted_at prime s) (λ b u. mapped (λ v. b) (one (this prime) tt u))
 
-abbrev pub text_at : Reading (List ℕ)
+abbrev pub text_at : ByteReader (List ℕ)
 text_at s = after (one (this quote) tt s) (λ u. text_rest)
 
-abbrev pub char_at : Reading ℕ
+abbrev pub char_at : ByteReader ℕ
 char_at s = after (one (this prime) tt s) (λ u. char_rest)
 
 -- ---- one token
