@@ -77,11 +77,6 @@ natural_is s x r n token (le, run) front back plain given =
     (ap natural_found parts ∙ pick_true (is_plain x) _ _ plain)
     (given (pos (value_on 0 x)) (refl, each, plain_by x plain), refl)
 
-pub natural_wrong : (s x r : List ℕ) (n : ℕ) → IsRun is_ascii_digit s n → x ≡ take n s → is_plain x ≡ false
-    → natural_found (span is_ascii_digit s) ≡ stuck grammar.Wrong
-natural_wrong s x r n (le, run) front plain =
-    ap natural_found (run ∙ ap (λ y. (y, drop n s)) (sym front)) ∙ pick_false (is_plain x) _ _ plain
-
 -- the digits after a minus, of which the first is no zero
 value_grows : (n : ℕ) (ds : List ℕ) → n ≤ value_on n ds
 value_grows n [] = omega arith
@@ -93,17 +88,6 @@ some_value (d ∷ ds) is =
     let low : 49 ≤ d = grind arith in
     let grows : 10 * 0 + (d - 48) ≤ value_on (10 * 0 + (d - 48)) ds = value_grows (10 * 0 + (d - 48)) ds in
     (value_on 0 (d ∷ ds) - 1, omega arith, λ zero_first. absurd (omega arith))
-
-no_value : (ds r : List ℕ) → Each (Is is_ascii_digit) ds → is_negative (minus ∷ ds) ≡ false → negative_found (ds, r) ≡ stuck grammar.Wrong
-no_value [] r each isnt = refl
-no_value (d ∷ []) r each isnt =
-    let digit : is_ascii_digit d ≡ true = each.0 in
-    let zero_first : 48 ≡ d = grind arith in
-    subst (λ c. negative_found (c ∷ [], r) ≡ stuck grammar.Wrong) zero_first refl
-no_value (d ∷ e ∷ ds) r each isnt =
-    let digit : is_ascii_digit d ≡ true = each.0 in
-    let zero_first : 48 ≡ d = grind arith in
-    subst (λ c. negative_found (c ∷ e ∷ ds, r) ≡ stuck grammar.Wrong) zero_first refl
 
 -- a minus and the run behind it
 signed_run : (b s x r : List ℕ) (n : ℕ) → b ≡ minus ∷ s → IsRun is_ascii_digit (tail_of b) n → x ≡ take (1 + n) b → r ≡ drop (1 + n) b
@@ -127,10 +111,3 @@ negative_is b s x r n token cut run front back is given =
     next_is (negative_found (span is_ascii_digit s)) (found (number_of (negsuc m)) r) token r
     (ap negative_found parts ∙ (pick_true (is_plain ds) _ _ (plain_is ds plain) ∙ ap (λ v. negated v r) value))
     (given (negsuc m) (ds, text, (sym value, each, plain)), refl)
-
-pub negative_wrong : (b s x r : List ℕ) (n : ℕ) → b ≡ minus ∷ s → IsRun is_ascii_digit (tail_of b) n → x ≡ take (1 + n) b
-    → r ≡ drop (1 + n) b → is_negative x ≡ false → negative_found (span is_ascii_digit s) ≡ stuck grammar.Wrong
-negative_wrong b s x r n cut run front back isnt =
-    let (ds, text, parts) = signed_run b s x r n cut run front back in
-    let each : Each (Is is_ascii_digit) ds = subst (λ (p : List ℕ × List ℕ). Each (Is is_ascii_digit) p.0) parts (span_is is_ascii_digit s).1 in
-    ap negative_found parts ∙ no_value ds r each (ap is_negative (sym text) ∙ isnt)
