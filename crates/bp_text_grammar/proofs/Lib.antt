@@ -1,3 +1,10 @@
+pub mod Quoted
+pub mod Pieces
+pub mod Scans
+pub mod Exact
+pub mod Decimals
+pub mod Laid
+pub mod WordNames
 pub mod Twins
 pub mod TwinLists
 pub mod Told
@@ -18,3 +25,4 @@ pub mod LaidValues
 pub mod RoundTrips
 pub mod LaidShapes
 pub mod Examples
+pub mod PrintedTexts

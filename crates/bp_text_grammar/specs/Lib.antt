@@ -1,4 +1,7 @@
 pub mod Tokens
+pub mod Lexing
+pub mod Scanning
+pub mod Printed
 pub mod Texts
 pub mod ValueTexts
 pub mod ShapeTexts
@@ -6,3 +9,4 @@ pub mod ShapeFronts
 pub mod PrintedPieces
 pub mod PrintedValues
 pub mod PrintedShapes
+pub mod PrintedTexts

@@ -1,23 +1,19 @@
--- The tokens of a text.
+-- A token of a text.
 use Rattle.std.specs.Prelude.{ℕ, ℤ, List}
 
--- a token of a text
 pub data Token : Type 0 where
-  -- the longest run of name bytes that begins with a letter or `_`, of any length: the grammars refuse a long one
+  -- the longest run of name bytes from a letter or `_` on, of any length
   Word : List ℕ → Token
-  -- a decimal within 64 signed bits
+  -- a decimal within 64 signed bits, and one beyond
   Number : ℤ → Token
-  -- a decimal beyond 64 bits
   Big : Token
-  -- a text in double quotes, unescaped
+  -- the bytes that stand in double quotes, and the byte in single quotes
   Text : List ℕ → Token
-  -- a byte in single quotes, unescaped
   Char : ℕ → Token
   -- a byte of punctuation
   Mark : ℕ → Token
-  -- where no token stands: the list of tokens ends with it
+  -- the rest of a text where no token stands
   Wrong : Token
-  -- a text in quotes that the end of all leaves open: the list ends with it
+  -- a text, or a char, that the end of all leaves open
   OpenText : Token
-  -- a char in quotes that the end of all leaves open: the list ends with it
   OpenChar : Token

@@ -1,6 +1,6 @@
-//! The grammars of the texts of values and of shapes: which tokens are a text of which value or
-//! shape, the reading of them, proved right, and the texts that are printed.
+//! The grammar of texts: which bytes are which token, and which tokens are texts of which value or
+//! shape.
 //!
 //! It has definitions (`specs/`) and proofs (`proofs/`) alone, and no code of its own, so that no
-//! edit of a parser checks the grammars again.
+//! edit of a reader of texts checks the grammar again.
 #![tactic(auto)]
