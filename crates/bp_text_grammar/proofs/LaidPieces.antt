@@ -40,6 +40,22 @@ laid_mark Q b m ps is laid = (is, λ run. absurd run, laid)
 pub laid_word : (Q : Token → Type 0) (b : Bool) (w : List ℕ) (ps : List Piece) → IsShapeName w → IsApart ps → AreLaid Q ps → AreLaid Q ((b, Word w) ∷ ps)
 laid_word Q b w ps is apart laid = (is, λ run. apart, laid)
 
+-- where fewer texts and chars in quotes may come, more may come too
+pub laid_wider : (V Q : Token → Type 0) → ((t : Token) → V t → Q t) → (ps : List Piece) → AreLaid V ps → AreLaid Q ps
+laid_wider V Q wider [] laid = tt
+laid_wider V Q wider (p ∷ ps) laid = (widen p.1 laid.0, laid.1, laid_wider V Q wider ps laid.2)
+  where
+    widen : (t : Token) → IsWritten V t → IsWritten Q t
+    widen (Word w) is = is
+    widen (Number n) is = is
+    widen Big is = is
+    widen (Text w) is = wider (Text w) is
+    widen (Char b) is = wider (Char b) is
+    widen (Mark m) is = is
+    widen Wrong is = is
+    widen OpenText is = is
+    widen OpenChar is = is
+
 -- what holds of each token may be wanted of the texts and chars in quotes
 pub laid_narrow : (V Q : Token → Type 0) (ps : List Piece) → AreLaid V ps → Each Q (tokens_of ps) → AreLaid Q ps
 laid_narrow V Q [] laid each = tt
