@@ -12,7 +12,7 @@ use Rattle.bp_text_grammar.specs.Lexing.{blank, in_name, is_punctuation, IsToken
 use Rattle.bp_text_grammar.specs.Printed.{quoted_text, quoted_char, decimal_text, Laid}
 use Rattle.bp_text_grammar.specs.ValueTexts.{IsValueTokens}
 use Rattle.bp_text_grammar.specs.ShapeTexts.{IsShapeTokens}
-use Rattle.bp_text_grammar.specs.PrintedPieces.{Piece, tokens_of, token_bytes, bytes_of, marks, among, IsWritten, IsRun, IsApart, AreLaid}
+use Rattle.bp_text_grammar.specs.PrintedPieces.{Piece, tokens_of, token_bytes, bytes_of, marks, among, IsWritten, MayGoOn, IsApart, AreLaid}
 use Rattle.bp_text_grammar.specs.PrintedValues.{value_pieces, value_tokens, value_text_of}
 use Rattle.bp_text_grammar.specs.PrintedShapes.{shape_pieces, shape_tokens, shape_text_of}
 use Rattle.bp_text_grammar.specs.PrintedTexts.{IsOfBytes, value_text, shape_text}
@@ -79,7 +79,7 @@ written_token OpenChar is = absurd is
 -- ---- pieces
 
 -- what stands tight after a token does not go on it
-ends_before : (t u : Token) (ps : List Piece) (r : List ℕ) → IsWritten IsOfBytes t → IsWritten IsOfBytes u → (IsRun t → IsApart ((false, u) ∷ ps)) → EndsBefore t (bytes u ++ r)
+ends_before : (t u : Token) (ps : List Piece) (r : List ℕ) → IsWritten IsOfBytes t → IsWritten IsOfBytes u → (MayGoOn t → IsApart ((false, u) ∷ ps)) → EndsBefore t (bytes u ++ r)
 ends_before (Word w) (Mark m) ps r has is apart = ends_apart (Word w) (m ∷ r) (mark_no_name m is)
 ends_before (Word w) _ ps r has is apart = absurd (apart tt)
 ends_before (Number n) (Mark m) ps r has is apart = ends_apart (Number n) (m ∷ r) (mark_no_name m is)

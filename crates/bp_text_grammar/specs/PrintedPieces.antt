@@ -76,10 +76,10 @@ IsWritten Q (Mark m) = among m marks ≡ true
 IsWritten Q _ = ⊥
 
 -- a word or a number, which goes on with what may go on it
-abbrev pub IsRun : Token → Type 0
-IsRun (Word w) = Unit {0}
-IsRun (Number n) = Unit {0}
-IsRun _ = ⊥
+abbrev pub MayGoOn : Token → Type 0
+MayGoOn (Word w) = Unit {0}
+MayGoOn (Number n) = Unit {0}
+MayGoOn _ = ⊥
 
 -- what goes on nothing: a mark, what has a blank before it, and the end
 abbrev pub IsApart : List Piece → Type 0
@@ -91,4 +91,4 @@ IsApart _ = ⊥
 -- each token has bytes, and the next does not go on it
 abbrev pub AreLaid : (Token → Type 0) → List Piece → Type 0
 AreLaid Q [] = Unit {0}
-AreLaid Q (p ∷ ps) = IsWritten Q p.1 × (IsRun p.1 → IsApart ps) × AreLaid Q ps
+AreLaid Q (p ∷ ps) = IsWritten Q p.1 × (MayGoOn p.1 → IsApart ps) × AreLaid Q ps
