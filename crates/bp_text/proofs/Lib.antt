@@ -1,0 +1,5 @@
+pub mod Cursors
+pub mod QuotedSteps
+pub mod ScanSteps
+pub mod NumberSteps
+pub mod TokenSteps

@@ -1,0 +1,12 @@
+//! Texts of shapes and of values.
+//!
+//! A text is first cut into tokens, which `bp_text_grammar` defines. Each text has exactly one list
+//! of them: where no token stands, the last one says so, and no reader of tokens goes on with it.
+#![tactic(auto)]
+
+mod quoted;
+mod scanning;
+mod stop;
+#[cfg(test)]
+mod tests;
+mod token;

@@ -1,0 +1,170 @@
+use crate::scanning::tokens;
+use crate::token::{Placed, Token};
+use std::alloc::Global;
+use std::process::Abort;
+use std::test::Fail;
+
+/// The tokens, each with the bytes that are left: ` word "int":8 mark 91:4`.
+fn shown(alloc: Global, text: &[u8]) -> Result<String, Fail> {
+    let mut line = String::new(alloc);
+    for placed in tokens(alloc, text)?.as_slice() {
+        let Placed { token, left } = placed;
+        let one = match token {
+            Token::Word(word) => format!(in alloc; " word {word:?}:{left}")?,
+            Token::Number(number) => format!(in alloc; " {number}:{left}")?,
+            Token::Big => format!(in alloc; " big:{left}")?,
+            Token::Text(bytes) => format!(in alloc; " text {bytes:?}:{left}")?,
+            Token::Char(byte) => format!(in alloc; " char {byte}:{left}")?,
+            Token::Mark(byte) => format!(in alloc; " mark {byte}:{left}")?,
+            Token::Wrong => format!(in alloc; " wrong:{left}")?,
+            Token::OpenText => format!(in alloc; " open text:{left}")?,
+            Token::OpenChar => format!(in alloc; " open char:{left}")?,
+        };
+        line.push_str(one.as_str())?;
+    }
+    Ok(line)
+}
+
+/// Each text has these tokens.
+fn check(rt: &impl Abort, alloc: Global, rows: &[(&[u8], &str)]) -> Result<(), Fail> {
+    for (text, want) in rows {
+        assert_eq!(rt; shown(alloc, text)?.as_str(), *want);
+    }
+    Ok(())
+}
+
+#[test]
+fn blanks_may_stand_everywhere_and_a_tab_nowhere(rt: HostRuntime) -> Result<(), Fail> {
+    check(
+        &rt,
+        rt.alloc(),
+        &[
+            (b"", ""),
+            (b"  ", ""),
+            (b" int  list ", r#" word "int":10 word "list":5"#),
+            (b"int\tlist", r#" word "int":8 wrong:5"#),
+            (b"int\n", r#" word "int":4 wrong:1"#),
+        ],
+    )
+}
+
+#[test]
+fn the_longest_run_of_name_bytes_is_one_word(rt: HostRuntime) -> Result<(), Fail> {
+    check(
+        &rt,
+        rt.alloc(),
+        &[
+            (b"a_1' _x Z", r#" word "a_1'":9 word "_x":4 word "Z":1"#),
+            (b"some'x'", r#" word "some'x'":7"#),
+            (b"5x", r#" 5:2 word "x":1"#),
+            (b"x-5", r#" word "x":3 -5:2"#),
+        ],
+    )?;
+    let alloc = rt.alloc();
+    let name = "aaaaaaaaaaaaaaaaaaaaaaaaaaaaaaaaaaaaaaaaaaaaaaaaaaaaaaaaaaaaaaaaa";
+    let want = format!(in alloc; " word \"{name}\":65")?;
+    check(&rt, alloc, &[(name.as_bytes(), want.as_str())])
+}
+
+#[test]
+fn a_number_has_one_form_and_beyond_64_bits_no_value(rt: HostRuntime) -> Result<(), Fail> {
+    check(
+        &rt,
+        rt.alloc(),
+        &[
+            (b"0 7 -12", " 0:7 7:5 -12:3"),
+            (b"9223372036854775807", " 9223372036854775807:19"),
+            (b"-9223372036854775808", " -9223372036854775808:20"),
+            (b"9223372036854775808", " big:19"),
+            (b"-9223372036854775809", " big:20"),
+            (b"100000000000000000000000000 1", " big:29 1:1"),
+            (b"007", " wrong:3"),
+            (b"00", " wrong:2"),
+            (b"-0", " wrong:2"),
+            (b"-05", " wrong:3"),
+            (b"- 1", " wrong:3"),
+            (b"--1", " wrong:3"),
+            (b"7 -", " 7:3 wrong:1"),
+        ],
+    )
+}
+
+#[test]
+fn a_text_is_read_with_its_escapes(rt: HostRuntime) -> Result<(), Fail> {
+    check(
+        &rt,
+        rt.alloc(),
+        &[
+            (br#""""#, r#" text "":2"#),
+            (br#""a ~"b"#, r#" text "a ~":6 word "b":1"#),
+            (br#""\"\'\\'""#, r#" text "\"'\\'":9"#),
+            (br#""\x41\x0a\xFe""#, " text 0x410afe:14"),
+            (br#""\q" 1"#, " wrong:6"),
+            (br#""\x4g""#, " wrong:6"),
+            (b"\"\x1F\"", " wrong:3"),
+            (b"\"\x7F\"", " wrong:3"),
+            (b"\"\x80\"", " wrong:3"),
+        ],
+    )
+}
+
+#[test]
+fn a_char_is_one_byte(rt: HostRuntime) -> Result<(), Fail> {
+    check(
+        &rt,
+        rt.alloc(),
+        &[
+            (b"'a' 'b'", " char 97:7 char 98:3"),
+            (br#"'"'"#, " char 34:3"),
+            (br"'\''", " char 39:4"),
+            (br"'\\'", " char 92:4"),
+            (br"'\x00'", " char 0:6"),
+            (b"''", " wrong:2"),
+            (b"'ab'", " wrong:4"),
+            (br"'\q'", " wrong:4"),
+            (b"'\x80'", " wrong:3"),
+        ],
+    )
+}
+
+#[test]
+fn what_the_end_leaves_open_is_told_from_what_is_wrong(rt: HostRuntime) -> Result<(), Fail> {
+    check(
+        &rt,
+        rt.alloc(),
+        &[
+            (br#"x "abc"#, r#" word "x":6 open text:4"#),
+            (br#"""#, " open text:1"),
+            (br#""\"#, " open text:2"),
+            (br#""\""#, " open text:3"),
+            (br#""\x4"#, " open text:4"),
+            (br#""\q"#, " wrong:3"),
+            (br#""\xg"#, " wrong:4"),
+            (b"'", " open char:1"),
+            (b"'a", " open char:2"),
+            (br"'\x4", " open char:4"),
+            (b"'ab", " wrong:3"),
+        ],
+    )
+}
+
+#[test]
+fn marks_are_single_bytes_and_other_bytes_are_wrong(rt: HostRuntime) -> Result<(), Fail> {
+    check(
+        &rt,
+        rt.alloc(),
+        &[
+            (
+                b"(){}[]",
+                " mark 40:6 mark 41:5 mark 123:4 mark 125:3 mark 91:2 mark 93:1",
+            ),
+            (
+                b";|,:=*`!",
+                " mark 59:8 mark 124:7 mark 44:6 mark 58:5 mark 61:4 mark 42:3 mark 96:2 mark 33:1",
+            ),
+            (b"a.b", r#" word "a":3 wrong:2"#),
+            (b"->", " wrong:2"),
+            (b"\xC3\xA9", " wrong:2"),
+        ],
+    )
+}

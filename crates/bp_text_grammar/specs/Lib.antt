@@ -1,0 +1,12 @@
+pub mod Tokens
+pub mod Lexing
+pub mod Scanning
+pub mod Printed
+pub mod Texts
+pub mod ValueTexts
+pub mod ShapeTexts
+pub mod ShapeFronts
+pub mod PrintedPieces
+pub mod PrintedValues
+pub mod PrintedShapes
+pub mod PrintedTexts
