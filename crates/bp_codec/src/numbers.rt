@@ -74,14 +74,27 @@ fn push_wide_int(number: i64, out: &mut Vec<u8>)
     requires room { vec_len out.old + 9 ≤ vec_capacity out.old }
     ensures { out.new.items ≡ out.old.items ++ written_int number }
 {
-    match number {
-        -0x80..=-1 => {
-            out.push_reserved(0xFF);
-            out.push_reserved((number as i8).cast_unsigned());
-        }
-        -0x8000..=0x7FFF => push_two((number as i16).cast_unsigned(), out),
-        -0x8000_0000..=0x7FFF_FFFF => push_four((number as i32).cast_unsigned(), out),
-        _ => push_eight(number.cast_unsigned(), out),
+    if (-0x8000..0x8000).contains(&number) {
+        push_short(number as i16, out);
+    } else if (-0x8000_0000..0x8000_0000).contains(&number) {
+        push_four((number as i32).cast_unsigned(), out);
+    } else {
+        push_eight(number.cast_unsigned(), out);
+    }
+}
+
+// A negative byte behind its code, or two bytes.
+#[inline(always)]
+fn push_short(number: i16, out: &mut Vec<u8>)
+    requires wide { IsWideInt number }
+    requires room { vec_len out.old + 3 ≤ vec_capacity out.old }
+    ensures { out.new.items ≡ out.old.items ++ written_int number }
+{
+    if (-0x80..0).contains(&number) {
+        out.push_reserved(0xFF);
+        out.push_reserved((number as i8).cast_unsigned());
+    } else {
+        push_two(number.cast_unsigned(), out);
     }
 }
 
@@ -131,7 +144,7 @@ fn push_word(word: u32, out: &mut Vec<u8>)
 }
 
 // The code of eight bytes, and a word.
-#[inline(never)]
+#[inline(always)]
 fn push_eight(word: u64, out: &mut Vec<u8>)
     requires { vec_len out.old + 9 ≤ vec_capacity out.old }
     ensures { out.new.items ≡ out.old.items ++ 252 ∷ little_endian 8 word }
