@@ -106,6 +106,17 @@ number_bad kind s k w vs fault = given (int_bad kind s k w vs fault)
         let left : n ≡ length (behind k s) = omega (arith, ap length (behind-drop k s), length-drop k s) in
         is ∙ ap (λ x. bad x w) left
 
+-- an int of one byte
+pub number_short : (kind : IntKind) (z : ℤ) (s : List ℕ) → 1 ≤ length s → z ≡ pos (get_or s 0 0) → get_or s 0 0 < 128
+    → (int_at kind s ≡ whole (to_z w64 (of_z w64 z)) (behind 1 s)) × (length (behind 1 s) < length s)
+unfolding int_at
+number_short kind z [] len is lt = absurd (omega arith)
+number_short kind z (b ∷ t) len is lt =
+    let number : to_z w64 (of_z w64 z) ≡ pos b = rw is (omega (arith, ints)) in (
+      pick_true (nat_lt b 128) _ _ (grind arith) ∙ (ap (λ x. whole x t) (sym number) ∙ ap (λ u. whole (to_z w64 (of_z w64 z)) u) (sym (behind-drop 1 (b ∷ t)))),
+      fewer 1 (b ∷ t) (omega arith),
+    )
+
 -- ---- texts
 
 symbols_all : {W : Type 0} (n : ℕ) (s : List ℕ) → n ≤ length s → symbols {W = W} n s ≡ whole (take n s) (drop n s)

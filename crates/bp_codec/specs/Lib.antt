@@ -8,6 +8,7 @@ pub mod Plan
 pub mod Sexps
 pub mod Sources
 pub mod Taking
+pub mod Wide
 pub mod Decoded
 pub mod Fitting
 pub mod Puts

@@ -20,7 +20,7 @@ use crate::contents::{
     bool_in, case_in, char_in, items_in, number_in, option_in, parts_in, sexp_in, text_in,
 };
 use crate::error::{EncodeError, PutError, within};
-use crate::numbers::{put_int, put_nat};
+use crate::numbers::{put_int, put_nat, put_word};
 use bp_value::{Case, Field, PolyCase, Sexp, Shape, Value, poly_tag};
 
 #[cfg(test)]
@@ -306,8 +306,7 @@ fn put_poly(poly: &[PolyCase], value: &Value, bound: u64, out: &mut Vec<u8>) -> 
 fn put_tag(name: &[u8], bound: u64, out: &mut Vec<u8>) -> Result<(), PutError>
     ensures { Puts bound (signed_bytes 4 (tag_of name.now)) out.old.items out.new.items result }
 {
-    out.extend_from_slice(&poly_tag(name).to_le_bytes())?;
-    within(bound, out)
+    put_word(poly_tag(name).cast_unsigned(), bound, out)
 }
 
 #[inline(never)]

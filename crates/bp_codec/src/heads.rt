@@ -59,6 +59,12 @@ pub fn number_at(rest: &mut &[u8], kind: IntKind) -> Result<i64, Stop>
     ensures gives { Gives (int_at kind) rest.old.now rest.new.now result }
     ensures fits { IfOk result (λ number. FitsSigned w64 number) }
 {
+    if let [first, later @ ..] = *rest
+        && *first < 0x80
+    {
+        *rest = later;
+        return Ok(i64::from(*first));
+    }
     let bytes = *rest;
     known(bytes);
     match read_int(kind, bytes) {

@@ -23,7 +23,10 @@ impl Level {
         ensures { Takes (number_value kind) self.old self.new rest.old.now rest.new.now result }
     {
         if let Left::Items { node, mut count } = self.left {
-            let result = numbers(kind, &mut count, &mut self.values, rest);
+            // The cursor of the loop is a local, so that it need not be in memory.
+            let mut cursor = *rest;
+            let result = numbers(kind, &mut count, &mut self.values, &mut cursor);
+            *rest = cursor;
             self.left = Left::Items { node, count };
             return result;
         }
@@ -101,10 +104,11 @@ fn numbers(
             Ok(number) => values.push(Value::Num(number))?,
             Err(stop) => return Err(stop),
         }
-        *count = count.saturating_sub(1);
-        if *count == 0 {
+        if *count <= 1 {
+            *count = 0;
             return Ok(());
         }
+        *count -= 1;
     }
 }
 

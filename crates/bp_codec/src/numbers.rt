@@ -3,11 +3,15 @@
 ghost use Rattle.std.specs.Prelude.{◌≡◌, ◌+◌, ◌≤◌, ◌∷◌, ◌++◌, length, vec_len, vec_capacity};
 ghost use Rattle.bp_num.specs.Forms.{little_endian, written_int, written_nat};
 ghost use Rattle.bp_codec.specs.Puts.{Puts};
+ghost use Rattle.bp_codec.specs.Wide.{IsWideInt, IsWideNat};
 
 use crate::error::{PutError, within};
 
 /// The most bytes of a number.
 const LONGEST: usize = 9;
+
+/// The bytes of a word.
+const WORD: usize = 4;
 
 /// Appends the shortest form of a length.
 #[inline(always)]
@@ -15,13 +19,26 @@ pub(crate) fn put_nat(number: u64, bound: u64, out: &mut Vec<u8>) -> Result<(), 
     ensures { Puts bound (written_nat number) out.old.items out.new.items result }
 {
     out.reserve(LONGEST)?;
+    if number < 0x80 {
+        out.push_reserved(number as u8);
+    } else {
+        push_wide_nat(number, out);
+    }
+    within(bound, out)
+}
+
+// A length of more than one byte. It stands apart, so that a short one costs no call.
+#[inline(never)]
+fn push_wide_nat(number: u64, out: &mut Vec<u8>)
+    requires wide { IsWideNat number }
+    requires room { vec_len out.old + 9 ≤ vec_capacity out.old }
+    ensures { out.new.items ≡ out.old.items ++ written_nat number }
+{
     match number {
-        0..=0x7F => out.push_reserved(number as u8),
-        0x80..=0xFFFF => push_two(number as u16, out),
+        0..=0xFFFF => push_two(number as u16, out),
         0x1_0000..=0xFFFF_FFFF => push_four(number as u32, out),
         _ => push_eight(number, out),
     }
-    within(bound, out)
 }
 
 /// How many bytes `put_nat` appends.
@@ -42,16 +59,52 @@ pub(crate) fn put_int(number: i64, bound: u64, out: &mut Vec<u8>) -> Result<(), 
     ensures { Puts bound (written_int number) out.old.items out.new.items result }
 {
     out.reserve(LONGEST)?;
-    match number {
-        -0x80..=-1 => {
-            out.push_reserved(0xFF);
-            out.push_reserved((number as i8).cast_unsigned());
-        }
-        0..=0x7F => out.push_reserved(number as u8),
-        -0x8000..=0x7FFF => push_two((number as i16).cast_unsigned(), out),
-        -0x8000_0000..=0x7FFF_FFFF => push_four((number as i32).cast_unsigned(), out),
-        _ => push_eight(number.cast_unsigned(), out),
+    if (0..0x80).contains(&number) {
+        out.push_reserved(number as u8);
+    } else {
+        push_wide_int(number, out);
     }
+    within(bound, out)
+}
+
+// An int of more than one byte.
+#[inline(never)]
+fn push_wide_int(number: i64, out: &mut Vec<u8>)
+    requires wide { IsWideInt number }
+    requires room { vec_len out.old + 9 ≤ vec_capacity out.old }
+    ensures { out.new.items ≡ out.old.items ++ written_int number }
+{
+    if (-0x8000..0x8000).contains(&number) {
+        push_short(number as i16, out);
+    } else if (-0x8000_0000..0x8000_0000).contains(&number) {
+        push_four((number as i32).cast_unsigned(), out);
+    } else {
+        push_eight(number.cast_unsigned(), out);
+    }
+}
+
+// A negative byte behind its code, or two bytes.
+#[inline(always)]
+fn push_short(number: i16, out: &mut Vec<u8>)
+    requires wide { IsWideInt number }
+    requires room { vec_len out.old + 3 ≤ vec_capacity out.old }
+    ensures { out.new.items ≡ out.old.items ++ written_int number }
+{
+    if (-0x80..0).contains(&number) {
+        out.push_reserved(0xFF);
+        out.push_reserved((number as i8).cast_unsigned());
+    } else {
+        push_two(number.cast_unsigned(), out);
+    }
+}
+
+/// Appends the four bytes of a word, the lowest first.
+#[inline(always)]
+pub(crate) fn put_word(word: u32, bound: u64, out: &mut Vec<u8>) -> Result<(), PutError>
+    ensures { Puts bound (little_endian 4 word) out.old.items out.new.items result }
+{
+    out.reserve(WORD)?;
+    push_word(word, out);
     within(bound, out)
 }
 
@@ -73,8 +126,17 @@ fn push_four(word: u32, out: &mut Vec<u8>)
     requires { vec_len out.old + 5 ≤ vec_capacity out.old }
     ensures { out.new.items ≡ out.old.items ++ 253 ∷ little_endian 4 word }
 {
-    let [first, second, third, fourth] = word.to_le_bytes();
     out.push_reserved(0xFD);
+    push_word(word, out);
+}
+
+// A word, its lowest byte first.
+#[inline(always)]
+fn push_word(word: u32, out: &mut Vec<u8>)
+    requires { vec_len out.old + 4 ≤ vec_capacity out.old }
+    ensures { out.new.items ≡ out.old.items ++ little_endian 4 word }
+{
+    let [first, second, third, fourth] = word.to_le_bytes();
     out.push_reserved(first);
     out.push_reserved(second);
     out.push_reserved(third);
@@ -82,7 +144,7 @@ fn push_four(word: u32, out: &mut Vec<u8>)
 }
 
 // The code of eight bytes, and a word.
-#[inline(never)]
+#[inline(always)]
 fn push_eight(word: u64, out: &mut Vec<u8>)
     requires { vec_len out.old + 9 ≤ vec_capacity out.old }
     ensures { out.new.items ≡ out.old.items ++ 252 ∷ little_endian 8 word }

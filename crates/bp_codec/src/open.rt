@@ -37,6 +37,7 @@ impl Open {
     }
 
     /// Opens a level, whose value the innermost one waits for.
+    #[inline(always)]
     pub fn begin(
         &mut self,
         alloc: Global,

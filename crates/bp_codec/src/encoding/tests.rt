@@ -1,5 +1,9 @@
+use crate::tests::building::{
+    b_of_pair, case_at, items, list_of, pair_option, poly, record, record_value, sexp, some_pair,
+    sum_of_pair,
+};
 use crate::{EncodeError, encode, size};
-use bp_value::{Blob, Boxed, Case, Field, Listed, OutOfMemory, PolyCase, Sexp, Shape, Value, fits};
+use bp_value::{Blob, OutOfMemory, Shape, Value, fits};
 use std::alloc::Global;
 use std::test::Fail;
 
@@ -31,45 +35,21 @@ fn gives(
     })
 }
 
+/// The same of a shape and a value that the caller made, so that none is left to be dropped there.
+fn spells(
+    alloc: Global,
+    shape: Result<Shape, OutOfMemory>,
+    value: Result<Value, OutOfMemory>,
+    max: u64,
+    want: Result<&[u8], EncodeError>,
+) -> Result<bool, OutOfMemory> {
+    let shape = shape?;
+    let value = value?;
+    gives(alloc, &shape, &value, max, want)
+}
+
 fn too_long(max: u64) -> Result<&'static [u8], EncodeError> {
     Err(EncodeError::TooLong { max })
-}
-
-fn blob(alloc: Global, text: &str) -> Result<Blob, OutOfMemory> {
-    Blob::from_slice(alloc, text.as_bytes())
-}
-
-fn text(alloc: Global, text: &str) -> Result<Value, OutOfMemory> {
-    Ok(Value::Text(blob(alloc, text)?))
-}
-
-fn listed<T: Drop, const N: usize>(alloc: Global, items: [T; N]) -> Result<Listed<T>, OutOfMemory> {
-    Ok(Listed::from_vec(Vec::from_array(alloc, items)?))
-}
-
-fn list_of(alloc: Global, item: Shape) -> Result<Shape, OutOfMemory> {
-    Ok(Shape::List(Boxed::new(alloc, item)?))
-}
-
-fn present(alloc: Global, value: Value) -> Result<Value, OutOfMemory> {
-    Ok(Value::Present(Boxed::new(alloc, value)?))
-}
-
-fn parts<const N: usize>(alloc: Global, values: [Value; N]) -> Result<Value, OutOfMemory> {
-    Ok(Value::Parts(listed(alloc, values)?))
-}
-
-fn items<const N: usize>(alloc: Global, values: [Value; N]) -> Result<Value, OutOfMemory> {
-    Ok(Value::Items(listed(alloc, values)?))
-}
-
-fn case_at<const N: usize>(
-    alloc: Global,
-    place: u32,
-    values: [Value; N],
-) -> Result<Value, OutOfMemory> {
-    let args = listed(alloc, values)?;
-    Ok(Value::Case { place, args })
 }
 
 #[test]
@@ -89,101 +69,65 @@ fn leaves_are_spelled(rt: HostRuntime) -> Result<(), Fail> {
     Ok(())
 }
 
-/// `{a: int; b: string list}`
-fn record(alloc: Global) -> Result<Shape, OutOfMemory> {
-    let a = Field {
-        name: blob(alloc, "a")?,
-        shape: Shape::Int,
-    };
-    let b = Field {
-        name: blob(alloc, "b")?,
-        shape: list_of(alloc, Shape::Text)?,
-    };
-    Ok(Shape::Fields(listed(alloc, [a, b])?))
-}
-
 #[test]
 fn a_record_is_spelled(rt: HostRuntime) -> Result<(), Fail> {
     let alloc = rt.alloc();
-    let texts = items(alloc, [text(alloc, "x")?, text(alloc, "")?])?;
-    let value = parts(alloc, [Value::Num(5), texts])?;
     let bytes = [0x05, 0x02, 0x01, 0x78, 0x00];
-    assert!(rt; gives(alloc, &record(alloc)?, &value, 5, Ok(&bytes))?);
+    assert!(rt; spells(alloc, record(alloc), record_value(alloc), 5, Ok(&bytes))?);
     Ok(())
 }
 
 #[test]
 fn an_option_is_spelled(rt: HostRuntime) -> Result<(), Fail> {
     let alloc = rt.alloc();
-    let pair = Shape::Tuple(listed(alloc, [Shape::Int, Shape::Bool])?);
-    let option = Shape::Opt(Boxed::new(alloc, pair)?);
-    let some = present(alloc, parts(alloc, [Value::Num(7), Value::Bool(true)])?)?;
-    assert!(rt; gives(alloc, &option, &some, 3, Ok(&[0x01, 0x07, 0x01]))?);
-    assert!(rt; gives(alloc, &option, &Value::Absent, 3, Ok(&[0x00]))?);
+    let some = [0x01, 0x07, 0x01];
+    assert!(rt; spells(alloc, pair_option(alloc), some_pair(alloc), 3, Ok(&some))?);
+    assert!(rt; spells(alloc, pair_option(alloc), Ok(Value::Absent), 3, Ok(&[0x00]))?);
     Ok(())
-}
-
-/// `[A | B of int * bool]`
-fn sum(alloc: Global) -> Result<Shape, OutOfMemory> {
-    let a = Case {
-        name: blob(alloc, "A")?,
-        args: listed(alloc, [])?,
-    };
-    let b = Case {
-        name: blob(alloc, "B")?,
-        args: listed(alloc, [Shape::Int, Shape::Bool])?,
-    };
-    Ok(Shape::Sum(listed(alloc, [a, b])?))
 }
 
 #[test]
 fn a_variant_is_spelled(rt: HostRuntime) -> Result<(), Fail> {
     let alloc = rt.alloc();
-    let value = case_at(alloc, 1, [Value::Num(3), Value::Bool(false)])?;
-    assert!(rt; gives(alloc, &sum(alloc)?, &value, 3, Ok(&[0x01, 0x03, 0x00]))?);
+    let bytes = [0x01, 0x03, 0x00];
+    assert!(rt; spells(alloc, sum_of_pair(alloc), b_of_pair(alloc), 3, Ok(&bytes))?);
     Ok(())
-}
-
-/// ``[`Ok of int | `Eof]``
-fn poly(alloc: Global) -> Result<Shape, OutOfMemory> {
-    let of_int = PolyCase {
-        name: blob(alloc, "Ok")?,
-        arg: Some(Boxed::new(alloc, Shape::Int)?),
-    };
-    let plain = PolyCase {
-        name: blob(alloc, "Eof")?,
-        arg: None,
-    };
-    Ok(Shape::Poly(listed(alloc, [of_int, plain])?))
 }
 
 #[test]
 fn a_polymorphic_variant_is_spelled(rt: HostRuntime) -> Result<(), Fail> {
     let alloc = rt.alloc();
-    let shape = poly(alloc)?;
-    let seven = case_at(alloc, 0, [Value::Num(7)])?;
+    let seven = [0x79, 0x8A, 0x00, 0x00, 0x07];
+    let eof = [0x39, 0x79, 0x69, 0x00];
     assert!(rt;
-        gives(
+        spells(
             alloc,
-            &shape,
-            &seven,
+            poly(alloc),
+            case_at(alloc, 0, [Value::Num(7)]),
             5,
-            Ok(&[0x79, 0x8A, 0x00, 0x00, 0x07])
+            Ok(&seven)
         )?
     );
-    let eof = case_at(alloc, 1, [])?;
-    assert!(rt; gives(alloc, &shape, &eof, 5, Ok(&[0x39, 0x79, 0x69, 0x00]))?);
+    assert!(rt; spells(alloc, poly(alloc), case_at(alloc, 1, []), 5, Ok(&eof))?);
     Ok(())
 }
 
 #[test]
 fn an_s_expression_is_spelled(rt: HostRuntime) -> Result<(), Fail> {
     let alloc = rt.alloc();
-    let unit = Sexp::List(listed(alloc, [])?);
-    let sexp = Sexp::List(listed(alloc, [Sexp::Atom(blob(alloc, "a")?), unit])?);
     let bytes = [0x01, 0x02, 0x00, 0x01, 0x61, 0x01, 0x00];
-    assert!(rt; gives(alloc, &Shape::Sexp, &Value::Sexp(sexp), 7, Ok(&bytes))?);
+    assert!(rt; spells(alloc, Ok(Shape::Sexp), sexp(alloc), 7, Ok(&bytes))?);
     Ok(())
+}
+
+/// Whether a text of 200 bytes is spelled so, or refused.
+fn spells_long(
+    alloc: Global,
+    max: u64,
+    want: Result<&[u8], EncodeError>,
+) -> Result<bool, OutOfMemory> {
+    let value = Value::Text(Blob::from_slice(alloc, &[b'q'; 200])?);
+    gives(alloc, &Shape::Text, &value, max, want)
 }
 
 #[test]
@@ -193,29 +137,29 @@ fn a_long_text_is_refused_or_spelled(rt: HostRuntime) -> Result<(), Fail> {
     whole[0] = 0xFE;
     whole[1] = 0xC8;
     whole[2] = 0x00;
-    let value = Value::Text(Blob::from_slice(alloc, &[b'q'; 200])?);
-    assert!(rt; gives(alloc, &Shape::Text, &value, 201, too_long(201))?);
-    assert!(rt; gives(alloc, &Shape::Text, &value, 202, too_long(202))?);
-    assert!(rt; gives(alloc, &Shape::Text, &value, 203, Ok(&whole))?);
-    assert!(rt; gives(alloc, &Shape::Text, &value, u64::MAX, Ok(&whole))?);
+    assert!(rt; spells_long(alloc, 201, too_long(201))?);
+    assert!(rt; spells_long(alloc, 202, too_long(202))?);
+    assert!(rt; spells_long(alloc, 203, Ok(&whole))?);
+    assert!(rt; spells_long(alloc, u64::MAX, Ok(&whole))?);
     Ok(())
+}
+
+/// Whether the list of 1, 2 and 300 is spelled so, or refused.
+fn spells_ints(
+    alloc: Global,
+    max: u64,
+    want: Result<&[u8], EncodeError>,
+) -> Result<bool, OutOfMemory> {
+    let value = items(alloc, [Value::Num(1), Value::Num(2), Value::Num(300)]);
+    spells(alloc, list_of(alloc, Shape::Int), value, max, want)
 }
 
 #[test]
 fn a_long_list_is_refused_or_spelled(rt: HostRuntime) -> Result<(), Fail> {
     let alloc = rt.alloc();
-    let ints = list_of(alloc, Shape::Int)?;
-    let value = items(alloc, [Value::Num(1), Value::Num(2), Value::Num(300)])?;
-    assert!(rt; gives(alloc, &ints, &value, 5, too_long(5))?);
-    assert!(rt;
-        gives(
-            alloc,
-            &ints,
-            &value,
-            6,
-            Ok(&[0x03, 0x01, 0x02, 0xFE, 0x2C, 0x01])
-        )?
-    );
+    let bytes = [0x03, 0x01, 0x02, 0xFE, 0x2C, 0x01];
+    assert!(rt; spells_ints(alloc, 5, too_long(5))?);
+    assert!(rt; spells_ints(alloc, 6, Ok(&bytes))?);
     Ok(())
 }
 

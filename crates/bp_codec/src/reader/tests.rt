@@ -27,7 +27,9 @@ fn is_more(answer: &Option<Decoded>) -> bool {
 #[test]
 fn a_text_in_three_pieces(rt: HostRuntime) -> Result<(), Fail> {
     let alloc = rt.alloc();
-    let mut reader = Reader::new(alloc, &Shape::Text, 100)?;
+    let shape = Shape::Text;
+    shape.check()?;
+    let mut reader = Reader::new(alloc, &shape, 100)?;
     assert!(rt; is_more(&fed(&mut reader, &[0x02])?));
     assert!(rt; is_more(&fed(&mut reader, b"h")?));
     assert!(rt; !reader.is_done());
@@ -85,7 +87,9 @@ fn a_long_list_and_a_long_text_byte_by_byte(rt: HostRuntime) -> Result<(), Fail>
     let mut text = Vec::new(alloc);
     text.extend_from_slice(&[0xFD, 0x80, 0x1A, 0x06, 0x00])?;
     text.resize(5 + 400_000, 0x61)?;
-    let mut reader = Reader::new(alloc, &Shape::Text, 1_000_000)?;
+    let shape = Shape::Text;
+    shape.check()?;
+    let mut reader = Reader::new(alloc, &shape, 1_000_000)?;
     let answer = fed_singly(&mut reader, &text)?;
     let Some(
         Decoded::Whole {

@@ -1,8 +1,11 @@
-use Rattle.std.proofs.Common.{refl, sym, subst, w64, FitsSigned}
+use Rattle.std.proofs.Common.{refl, sym, subst, w64, FitsSigned, arith}
 use Rattle.bp_num.proofs.FromAnswers.{int_more}
-use Rattle.bp_codec.proofs.HeadSteps.{number_done, number_bad}
+use Rattle.bp_codec.proofs.HeadSteps.{number_done, number_bad, number_short}
 use Rattle.bp_codec.proofs.Ranges.{number_fits, number_back}
 use Rattle.bp_codec.proofs.heads.number_at.Goals as goal
+
+pub returns-clause-gives : goal.returns-clause-gives
+returns-clause-gives c = number_short c.args.kind c.from.result c.args.rest.now.now c.in-len1-up.len_at_least c.from.ensures (omega arith)
 
 pub returns-in-Done-clause-gives : goal.returns-in-Done-clause-gives
 returns-in-Done-clause-gives c = number_done c.args.kind c.args.rest.now.now c.in-Done.value c.in-Done.used c.in-Done.ensures.told
