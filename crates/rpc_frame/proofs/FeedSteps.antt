@@ -8,7 +8,7 @@ use Rattle.bp_num.proofs.Payloads.{take_whole}
 use Rattle.rpc_frame.specs.Feeding.{PassesBehind, FedGives, IsFrameFed, WouldTake}
 use Rattle.rpc_frame.specs.Frames.{IsFrame, FrameWhy}
 use Rattle.rpc_frame.specs.Heads.{head_bytes, IsHead, IsRead}
-use Rattle.rpc_frame.specs.States.{FrameState, IsPartOfFrame, stream_place, taken, failed_after}
+use Rattle.rpc_frame.specs.States.{FrameState, IsPartOfFrame, stream_place, moved, failed_after}
 use Rattle.rpc_frame.specs.declared.error.FrameError.{FrameError}
 use Rattle.rpc_frame.specs.declared.error.FrameError.TheVariants as error
 use Rattle.rpc_frame.specs.declared.head.Head.{Head}
@@ -71,7 +71,7 @@ module _ (max : ℕ) (old : Head) (body piece : List ℕ) (place : ℕ) (failed 
           ((going, (front, all, state_is bytes after_is)), kept)
         where
           state_is : head_bytes new ++ grown ≡ (head_bytes old ++ body) ++ piece → after ≡ stream_place (place + (used + count))
-              → ◌≡◌ {A = FrameState} (record { max = max; held = head_bytes new ++ grown; place = after; failed = failed }) (taken state ((head_bytes old ++ body) ++ piece) (used + count))
+              → ◌≡◌ {A = FrameState} (record { max = max; held = head_bytes new ++ grown; place = after; failed = failed }) (moved state ((head_bytes old ++ body) ++ piece) (used + count))
           state_is bytes place = cc
 
       pub gives_frame : whole ≡ true → (blob held_now : List ℕ) (after : ℕ) → blob ≡ grown → held_now ≡ [] → after ≡ stream_place (place + (used + count))
@@ -83,7 +83,7 @@ module _ (max : ℕ) (old : Head) (body piece : List ℕ) (place : ℕ) (failed 
           (going, (subst (λ b. Stands (IsFrame max) ((head_bytes old ++ body) ++ piece) b (length (head_bytes old ++ body) + (used + count))) (sym blob_is) stands, state_is none after_is))
         where
           state_is : held_now ≡ [] → after ≡ stream_place (place + (used + count))
-              → ◌≡◌ {A = FrameState} (record { max = max; held = held_now; place = after; failed = failed }) (taken state [] (used + count))
+              → ◌≡◌ {A = FrameState} (record { max = max; held = held_now; place = after; failed = failed }) (moved state [] (used + count))
           state_is none place = cc
 
     -- a feed would take so many

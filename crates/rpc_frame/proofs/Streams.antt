@@ -10,8 +10,8 @@ use Rattle.bp_num.specs.declared.number.Why.TheVariants.{Length}
 use Rattle.bp_num.proofs.Payloads.{take_whole}
 use Rattle.rpc_frame.specs.Feeding.{FedGives, IsFrameFed}
 use Rattle.rpc_frame.specs.Frames.{frame, frames, IsFrame, FrameWhy, frame_at}
-use Rattle.rpc_frame.specs.States.{FrameState, stream_place, taken}
-use Rattle.rpc_frame.specs.Streams.{AreShort, AreBodies, HasGiven, given}
+use Rattle.rpc_frame.specs.States.{FrameState, stream_place, moved}
+use Rattle.rpc_frame.specs.Streams.{AreWithin, AreBodies, HasGiven, given}
 use Rattle.rpc_frame.specs.declared.error.FrameError.TheVariants as error
 use Rattle.rpc_frame.specs.declared.reader.Fed.{Fed}
 use Rattle.rpc_frame.proofs.FrameReads.{right_frame}
@@ -50,7 +50,7 @@ one_way max few stream bodies others held rest a b = go bodies others a.short b.
     cut_off [] x y e = e
     cut_off (b ∷ f) x y e = let tails : f ++ x ≡ f ++ y = cc in cut_off f x y tails
 
-    go : (bs cs : List (List ℕ)) → AreShort max bs → AreShort max cs → IsProperFront (IsFrame max) held → IsProperFront (IsFrame max) rest → frames bs ++ held ≡ frames cs ++ rest → (bs ≡ cs) × (held ≡ rest)
+    go : (bs cs : List (List ℕ)) → AreWithin max bs → AreWithin max cs → IsProperFront (IsFrame max) held → IsProperFront (IsFrame max) rest → frames bs ++ held ≡ frames cs ++ rest → (bs ≡ cs) × (held ≡ rest)
     go [] [] bs_short cs_short front other same = (refl, same)
     go [] (c ∷ cs) bs_short cs_short front other same =
         absurd (front_none max held c (frames cs ++ rest) front (frame_is max c few cs_short.0) (same ∙ append_assoc (frame c) (frames cs) rest))
@@ -89,7 +89,7 @@ feed_given max stream bodies old new piece fed had (going, gives) = by fed.frame
           bodies_are = record {
             whole = ap (λ p. stream ++ p) took ∙ (ap (λ s. s ++ piece) had.bodies_are.whole ∙ (append_assoc (frames bodies) old.held piece
                 ∙ (ap (λ bs. frames bs ++ (old.held ++ piece)) (sym (append-nil bodies)) ∙ ap (λ (r : FrameState). frames (bodies ++ []) ++ r.held) (sym is))));
-            short = subst (λ bs. AreShort max bs) (sym (append-nil bodies)) had.bodies_are.short;
+            short = subst (λ bs. AreWithin max bs) (sym (append-nil bodies)) had.bodies_are.short;
             front = subst (λ (r : FrameState). IsProperFront (IsFrame max) r.held) (sym is) (subst (λ m. IsProperFront (IsFrame m) (old.held ++ piece)) had.limit front);
           };
           place = ap (λ (r : FrameState). r.place) is ∙ counted_on (length stream) used old.place (length (stream ++ take used piece)) had.place

@@ -3,7 +3,7 @@ use Rattle.std.specs.Prelude.{◌≡◌, ℕ, ◌+◌, ◌≤◌, List, [], ◌+
 use Rattle.readers.specs.Reader.{Stands, IsProperFront, IsFaultAt}
 use Rattle.bp_num.specs.declared.number.Why.TheVariants.{Length}
 use Rattle.rpc_frame.specs.Frames.{IsFrame, FrameWhy}
-use Rattle.rpc_frame.specs.States.{FrameState, stream_place, taken, failed_after}
+use Rattle.rpc_frame.specs.States.{FrameState, stream_place, moved, failed_after}
 use Rattle.rpc_frame.specs.declared.error.FrameError.{FrameError}
 use Rattle.rpc_frame.specs.declared.error.FrameError.TheVariants as error
 use Rattle.rpc_frame.specs.declared.reader.Fed.{Fed}
@@ -14,8 +14,8 @@ PassesBehind r piece n = IsFaultAt (IsFrame r.max) (FrameWhy r.max) (r.held ++ p
 
 -- the piece ends a frame, of which its first bytes are the last; or all of it is taken, and a frame goes on
 abbrev pub FedGives : FrameState → List ℕ → Option (List ℕ) → ℕ → FrameState → Type 0
-FedGives old piece (Some body) used new = Stands (IsFrame old.max) (old.held ++ piece) body (length old.held + used) × (new ≡ taken old [] used)
-FedGives old piece None used new = IsProperFront (IsFrame old.max) (old.held ++ piece) × (used ≡ length piece) × (new ≡ taken old (old.held ++ piece) used)
+FedGives old piece (Some body) used new = Stands (IsFrame old.max) (old.held ++ piece) body (length old.held + used) × (new ≡ moved old [] used)
+FedGives old piece None used new = IsProperFront (IsFrame old.max) (old.held ++ piece) × (used ≡ length piece) × (new ≡ moved old (old.held ++ piece) used)
 
 abbrev pub IsFrameFed : FrameState → List ℕ → Result Fed FrameError → FrameState → Type 0
 IsFrameFed old piece (Ok fed) new = (old.failed ≡ None) × FedGives old piece fed.frame fed.used new

@@ -23,8 +23,8 @@ abbrev pub stream_place : ℕ → ℕ
 stream_place n = min n (2 ^ 64 - 1)
 
 -- so many bytes were taken, and these are held
-abbrev pub taken : FrameState → List ℕ → ℕ → FrameState
-taken r held used = record { max = r.max; held = held; place = stream_place (r.place + used); failed = None }
+abbrev pub moved : FrameState → List ℕ → ℕ → FrameState
+moved r held used = record { max = r.max; held = held; place = stream_place (r.place + used); failed = None }
 
 -- n bytes were taken, and one that makes a length too long
 abbrev pub failed_after : FrameState → ℕ → FrameState

@@ -4,13 +4,13 @@ use Rattle.readers.specs.Reader.{Each, IsProperFront}
 use Rattle.rpc_frame.specs.Frames.{frames, IsFrame}
 use Rattle.rpc_frame.specs.States.{FrameState, stream_place}
 
-abbrev pub AreShort : ℕ → List (List ℕ) → Type 0
-AreShort max bodies = Each (λ body. length body ≤ max) bodies
+abbrev pub AreWithin : ℕ → List (List ℕ) → Type 0
+AreWithin max bodies = Each (λ body. length body ≤ max) bodies
 
 -- the frames of these bodies are all that a stream has, up to a frame that has begun
 pub record AreBodies (max : ℕ) (stream : List ℕ) (bodies : List (List ℕ)) (held : List ℕ) : Type 0 where
   pub whole : stream ≡ frames bodies ++ held
-  pub short : AreShort max bodies
+  pub short : AreWithin max bodies
   pub front : IsProperFront (IsFrame max) held
 
 -- a reader took a stream, gave these bodies, and goes on
