@@ -1,7 +1,8 @@
 // Operations on a value, and how long they took.
-ghost use Rattle.std.specs.Prelude.{IfOk};
+ghost use Rattle.std.specs.Prelude.{◌≡◌, IfOk};
 ghost use Rattle.bp_value.specs.Form.{form_of};
 ghost use Rattle.bp_value.specs.Faults.{IsGood};
+ghost use Rattle.bp_grammar.specs.Written.{written};
 ghost use Rattle.bp_codec.specs.Fitting.{IsFitting};
 
 use crate::failure::Failure;
@@ -84,6 +85,7 @@ fn whole(alloc: Global, shape: &Shape, bytes: &[u8]) -> Result<Value, Failure>
 pub fn written(alloc: Global, shape: &Shape, value: &Value) -> Result<Vec<u8>, Failure>
     requires good { IsGood (form_of shape.now) }
     requires fits { IsFitting (form_of shape.now) value.now }
+    ensures { IfOk result (λ out. out.items ≡ written (form_of shape.now) value.now) }
 {
     let mut out = Vec::new(alloc);
     encode(shape, value, u64::MAX, &mut out)?;

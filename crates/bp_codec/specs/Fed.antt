@@ -40,14 +40,14 @@ IsLast (Ok decoded.More) = ⊥
 IsLast (Ok (decoded.Bad at why)) = Unit {0}
 IsLast (Err e) = ⊥
 
--- what is open goes on where r left off, behind the bytes s of which some are held
+-- memory has not run out, and what is open goes on where r left off, behind the bytes s of which some are held
 abbrev pub ReadsOn : ℕ → Reading → List ℕ → List ℕ → Progress → Type 0
 ReadsOn m r s held (progress.Reading machine) =
     (reading : ℕ → Reading) × AreRead m machine.plan.nodes.items machine.plan.tags.items reading × ((x : List ℕ) → r (s ++ x) ≡ opened m reading machine.levels (held ++ x))
 ReadsOn m r s held progress.Done = ⊥
-ReadsOn m r s held progress.Lost = Unit {0}
+ReadsOn m r s held progress.Lost = ⊥
 
--- The bytes s were fed to a reader of a form, with lengths of at most m, and it wants more.
+-- The bytes s were fed to a reader of a form, with lengths of at most m, and it wants more: it has not answered, and memory has not run out.
 pub record HasFed (m : ℕ) (f : Form) (s : List ℕ) (r : Reader) : Type 0 where
   pub good : IsGood f
   pub limit : r.max_len ≡ m
