@@ -10,3 +10,4 @@ pub mod PrintedPieces
 pub mod PrintedValues
 pub mod PrintedShapes
 pub mod PrintedTexts
+pub mod WholeTexts
