@@ -3,13 +3,11 @@ use Rattle.std.specs.Prelude.{◌≡◌, ℕ, ◌<◌, ◌≤◌, Bool, false, L
 use Rattle.std.specs.Int.{is_in_range}
 use Rattle.readers.specs.Reader.{Outcome, whole, more, bad}
 use Rattle.bp_text_grammar.specs.Tokens as grammar
-use Rattle.bp_text_grammar.specs.Lexing.{Stamped}
 use Rattle.bp_text_grammar.specs.Scanning.{Scanned, found, stuck, span}
 use Rattle.bp_text.specs.declared.stop.Stop.{Stop}
 use Rattle.bp_text.specs.declared.stop.Stop.TheVariants as stop
 use Rattle.bp_text.specs.declared.token.Token.{Token}
 use Rattle.bp_text.specs.declared.token.Token.TheVariants as tok
-use Rattle.bp_text.specs.declared.token.Placed.{Placed}
 
 -- A reading takes the bytes `old` to `new`, some at least. Where a byte is at fault it is the first of those that are left.
 abbrev pub ReadsTo : {A : Type 0} → (List ℕ → Outcome ℕ (Unit {0}) A) → List ℕ → List ℕ → Result A Stop → Type 0
@@ -20,7 +18,7 @@ ReadsTo reads old new (Err stop.OutOfMemory) = Unit {0}
 
 -- the token of the grammar
 abbrev pub token_of : Token → grammar.Token
-token_of (tok.Word w) = grammar.Word w
+token_of (tok.Word w) = grammar.Word w.now
 token_of (tok.Number n) = grammar.Number n
 token_of tok.Big = grammar.Big
 token_of (tok.Text w) = grammar.Text w
@@ -29,9 +27,6 @@ token_of (tok.Mark b) = grammar.Mark b
 token_of tok.Wrong = grammar.Wrong
 token_of tok.OpenText = grammar.OpenText
 token_of tok.OpenChar = grammar.OpenChar
-
-abbrev pub stamp_of : Placed → Stamped
-stamp_of placed = record { token = token_of placed.token; left = placed.left }
 
 -- the token that was scanned, and what stands after it: nothing, where it takes all the rest
 abbrev pub IsScanned : Scanned → Token → List ℕ → Type 0

@@ -4,6 +4,9 @@
 //! of them: where no token stands, the last one says so, and no reader of tokens goes on with it.
 #![tactic(auto)]
 
+mod cursor;
+mod error;
+mod halt;
 mod quoted;
 mod scanning;
 mod stop;

@@ -1,38 +1,21 @@
 // The tokens of a text.
 
-ghost use Rattle.std.specs.Prelude.{◌≡◌, ◌≤◌, ◌∷◌, ℕ, ℤ, List, IfOk, length, map};
+ghost use Rattle.std.specs.Prelude.{◌≡◌, ◌≤◌, ◌∷◌, ℕ, ℤ, List, IfOk, length};
 ghost use Rattle.std.specs.Char.{is_ascii_digit};
 ghost use Rattle.bp_text_grammar.specs.Tokens.{Char, OpenChar, OpenText, Text, Wrong};
-ghost use Rattle.bp_text_grammar.specs.Lexing.{in_name, is_bracket, is_punctuation, is_separator, minus, starts_name, IsNumber, Lexes};
+ghost use Rattle.bp_text_grammar.specs.Lexing.{in_name, is_bracket, is_punctuation, is_separator, minus, starts_name, IsNumber};
 ghost use Rattle.bp_text_grammar.specs.Scanning as scanning;
 ghost use Rattle.bp_text_grammar.specs.Scanning.{is_plain, natural_found, negative_found, number_of, quoted_found, span, stuck, word_found};
-ghost use Rattle.bp_text.specs.Given.{is_negative, stamp_of, token_of, IsScanned, IsRun};
+ghost use Rattle.bp_text.specs.Given.{is_negative, token_of, IsScanned, IsRun};
 
 use crate::quoted::{char_rest, text_rest};
 use crate::stop::Stop;
-use crate::token::{Placed, Token};
-use bp_value::{Blob, OutOfMemory};
+use crate::token::Token;
+use bp_value::OutOfMemory;
 use std::alloc::Global;
 
-/// The tokens of a text, each with the number of bytes that are left from its first one on.
-///
-/// Every text has them: the last one says where no token stands, and none follows it.
-pub fn tokens(alloc: Global, text: &[u8]) -> Result<Vec<Placed>, OutOfMemory>
-    ensures { IfOk result (λ placed. Lexes (map stamp_of placed.items) text.now) }
-{
-    let mut placed = Vec::new(alloc);
-    let mut rest = after_blanks(text);
-    'tokens: while !rest.is_empty() {
-        let left = rest.len();
-        let token = next_token(&mut rest, alloc)?;
-        placed.push(Placed { token, left })?;
-        rest = after_blanks(rest);
-    }
-    Ok(placed)
-}
-
-// What stands after the blanks in front.
-fn after_blanks(bytes: &[u8]) -> &[u8]
+/// What stands after the blanks in front.
+pub fn after_blanks(bytes: &[u8]) -> &[u8]
     ensures { result.now ≡ scanning.after_blanks bytes.now }
 {
     let mut rest = bytes;
@@ -42,8 +25,8 @@ fn after_blanks(bytes: &[u8]) -> &[u8]
     rest
 }
 
-// The token in front. One that says that none stands there takes all the rest.
-fn next_token(rest: &mut &[u8], alloc: Global) -> Result<Token, OutOfMemory>
+/// The token in front. One that says that none stands there takes all the rest.
+pub fn next_token<'a>(rest: &mut &'a [u8], alloc: Global) -> Result<Token<'a>, OutOfMemory>
     ensures { IfOk result (λ token. IsScanned (scanning.scan rest.old.now) token rest.new.now) }
 {
     let [first, later @ ..] = *rest else {
@@ -60,7 +43,7 @@ fn next_token(rest: &mut &[u8], alloc: Global) -> Result<Token, OutOfMemory>
             char(rest)
         }
         byte if byte.is_ascii_digit() => Ok(natural(rest)),
-        byte if starts_name(byte) => word(rest, alloc),
+        byte if starts_name(byte) => Ok(word(rest)),
         byte if is_punctuation(byte) => {
             *rest = later;
             Ok(Token::Mark(byte))
@@ -70,7 +53,7 @@ fn next_token(rest: &mut &[u8], alloc: Global) -> Result<Token, OutOfMemory>
 }
 
 // No token stands in front, so all the rest is wrong.
-fn wrong(rest: &mut &[u8]) -> Token
+fn wrong<'a>(rest: &mut &'a [u8]) -> Token<'a>
     ensures { IsScanned (stuck Wrong) result rest.new.now }
 {
     *rest = &[];
@@ -78,18 +61,17 @@ fn wrong(rest: &mut &[u8]) -> Token
 }
 
 // The longest run of name bytes.
-fn word(rest: &mut &[u8], alloc: Global) -> Result<Token, OutOfMemory>
-    ensures { IfOk result (λ token.
-        IsScanned (word_found (span in_name rest.old.now)) token rest.new.now) }
+fn word<'a>(rest: &mut &'a [u8]) -> Token<'a>
+    ensures { IsScanned (word_found (span in_name rest.old.now)) result rest.new.now }
 {
     let bytes = *rest;
     let (name, later) = bytes.split_at(name_len(bytes));
     *rest = later;
-    Ok(Token::Word(Blob::from_slice(alloc, name)?))
+    Token::Word(name)
 }
 
 // The number of the digits in front. A zero stands alone.
-fn natural(rest: &mut &[u8]) -> Token
+fn natural<'a>(rest: &mut &'a [u8]) -> Token<'a>
     ensures { IsScanned (natural_found (span is_ascii_digit rest.old.now)) result rest.new.now }
 {
     let bytes = *rest;
@@ -102,7 +84,7 @@ fn natural(rest: &mut &[u8]) -> Token
 }
 
 // The number of a minus and the digits after it, of which the first is no zero.
-fn negative(rest: &mut &[u8]) -> Token
+fn negative<'a>(rest: &mut &'a [u8]) -> Token<'a>
     requires { 1 ≤ length rest.old.now }
     ensures { (s : List ℕ) → rest.old.now ≡ minus ∷ s
         → IsScanned (negative_found (span is_ascii_digit s)) result rest.new.now }
@@ -138,7 +120,7 @@ fn is_negative(signed: &[u8]) -> bool
 }
 
 // The number whose digits, and sign, these are.
-fn number(text: &[u8]) -> Token
+fn number<'a>(text: &[u8]) -> Token<'a>
     ensures { (n : ℤ) → IsNumber n text.now → token_of result ≡ number_of n }
 {
     let Ok(text) = std::str::from_utf8(text) else {
@@ -151,7 +133,7 @@ fn number(text: &[u8]) -> Token
 }
 
 // A text, after its first quote.
-fn text(rest: &mut &[u8], alloc: Global) -> Result<Token, OutOfMemory>
+fn text<'a>(rest: &mut &'a [u8], alloc: Global) -> Result<Token<'a>, OutOfMemory>
     ensures { IfOk result (λ token.
         IsScanned (quoted_found Text OpenText (scanning.text_rest rest.old.now))
         token rest.new.now) }
@@ -168,7 +150,7 @@ fn text(rest: &mut &[u8], alloc: Global) -> Result<Token, OutOfMemory>
 }
 
 // A char, after its first quote.
-fn char(rest: &mut &[u8]) -> Result<Token, OutOfMemory>
+fn char<'a>(rest: &mut &'a [u8]) -> Result<Token<'a>, OutOfMemory>
     ensures { IfOk result (λ token.
         IsScanned (quoted_found Char OpenChar (scanning.char_rest rest.old.now))
         token rest.new.now) }

@@ -1,16 +1,21 @@
-use crate::scanning::tokens;
-use crate::token::{Placed, Token};
+use crate::cursor::Cursor;
+use crate::token::Token;
+use bp_value::OutOfMemory;
 use std::alloc::Global;
 use std::process::Abort;
 use std::test::Fail;
 
-/// The tokens, each with the bytes that are left: ` word "int":8 mark 91:4`.
+/// The tokens, each with the bytes that are left, and whether the end leaves one open.
 fn shown(alloc: Global, text: &[u8]) -> Result<String, Fail> {
     let mut line = String::new(alloc);
-    for placed in tokens(alloc, text)?.as_slice() {
-        let Placed { token, left } = placed;
-        let one = match token {
-            Token::Word(word) => format!(in alloc; " word {word:?}:{left}")?,
+    let mut cursor = Cursor::new(alloc, text)?;
+    while cursor.first().is_some() {
+        let left = cursor.left();
+        let one = match taken(&mut cursor)? {
+            Token::Word(word) => {
+                let word = std::str::from_utf8(word).unwrap_or("no text");
+                format!(in alloc; " word {word:?}:{left}")?
+            }
             Token::Number(number) => format!(in alloc; " {number}:{left}")?,
             Token::Big => format!(in alloc; " big:{left}")?,
             Token::Text(bytes) => format!(in alloc; " text {bytes:?}:{left}")?,
@@ -22,7 +27,18 @@ fn shown(alloc: Global, text: &[u8]) -> Result<String, Fail> {
         };
         line.push_str(one.as_str())?;
     }
+    if cursor.is_open() {
+        line.push_str(" open")?;
+    }
     Ok(line)
+}
+
+/// The first token.
+fn taken<'a>(cursor: &mut Cursor<'a>) -> Result<Token<'a>, OutOfMemory> {
+    match cursor.take() {
+        Ok(token) => Ok(token),
+        Err(_) => Err(OutOfMemory),
+    }
 }
 
 /// Each text has these tokens.
@@ -133,16 +149,16 @@ fn what_the_end_leaves_open_is_told_from_what_is_wrong(rt: HostRuntime) -> Resul
         &rt,
         rt.alloc(),
         &[
-            (br#"x "abc"#, r#" word "x":6 open text:4"#),
-            (br#"""#, " open text:1"),
-            (br#""\"#, " open text:2"),
-            (br#""\""#, " open text:3"),
-            (br#""\x4"#, " open text:4"),
+            (br#"x "abc"#, r#" word "x":6 text "":4 open"#),
+            (br#"""#, r#" text "":1 open"#),
+            (br#""\"#, r#" text "":2 open"#),
+            (br#""\""#, r#" text "":3 open"#),
+            (br#""\x4"#, r#" text "":4 open"#),
             (br#""\q"#, " wrong:3"),
             (br#""\xg"#, " wrong:4"),
-            (b"'", " open char:1"),
-            (b"'a", " open char:2"),
-            (br"'\x4", " open char:4"),
+            (b"'", " char 0:1 open"),
+            (b"'a", " char 0:2 open"),
+            (br"'\x4", " char 0:4 open"),
             (b"'ab", " wrong:3"),
         ],
     )

@@ -1,10 +1,14 @@
+ghost use Rattle.std.specs.Prelude.{◌≡◌};
+ghost use Rattle.bp_text_grammar.specs.WholeTexts.{is_open};
+ghost use Rattle.bp_text.specs.Given.{token_of};
+
 use bp_value::Blob;
 
 /// A token of a text.
 #[derive(Debug, Drop)]
-pub enum Token {
+pub enum Token<'a> {
     /// The longest run of name bytes from a letter or `_` on. It may be longer than a name is.
-    Word(Blob),
+    Word(&'a [u8]),
     Number(i64),
     /// A decimal beyond the range of `i64`.
     Big,
@@ -22,10 +26,11 @@ pub enum Token {
     OpenChar,
 }
 
-/// A token, and where it stands.
-#[derive(Debug, Drop)]
-pub struct Placed {
-    pub token: Token,
-    /// How many bytes there are from its first one to the end of the text.
-    pub left: usize,
+impl<'a> Token<'a> {
+    /// Whether the end of a text leaves it open.
+    pub fn is_open(&self) -> bool
+        ensures { result ≡ is_open (token_of self.now) }
+    {
+        matches!(self, Token::OpenText | Token::OpenChar)
+    }
 }

@@ -47,10 +47,9 @@ pub returns-in_default-2 : goal.returns-in_default-2
 returns-in_default-2 c =
     let s = c.args.rest.now.now in
     let starts : starts_name (get_or s 0 0) ≡ true = sym c.if-starts_name.ensures in
-    IfOk-weaker c.word.result _ _
-    (λ token is. next_is (scanning.scan s) (word_found (span in_name s)) token c.word.new.rest.now
+    next_is (scanning.scan s) (word_found (span in_name s)) c.word.result c.word.new.rest.now
     (scan_first name s c.in-len1-up.len_at_least starts
-    ∙ ap (λ z. word_found (span in_name z)) (sym (head_cut s c.in-len1-up.len_at_least))) is) c.word.ensures
+    ∙ ap (λ z. word_found (span in_name z)) (sym (head_cut s c.in-len1-up.len_at_least))) c.word.ensures
 
 pub returns-in_default-3 : goal.returns-in_default-3
 returns-in_default-3 c =

@@ -1,0 +1,21 @@
+use bp_value::{OutOfMemory, ShapeFault};
+use std::alloc::{AllocError, AllocFailed};
+
+/// Why a text is refused. Places are counted in bytes, from 0.
+#[derive(Debug, Clone, Copy, PartialEq, Eq)]
+pub enum TextError {
+    /// The token that begins at `at` is the first that cannot stand there. Where the text ends too
+    /// early, `at` is its length.
+    BadText { at: usize },
+    /// The word `float` stands at `at`, where a base of a shape may stand.
+    Float { at: usize },
+    /// The text spells a shape that is not good.
+    NotGood(ShapeFault),
+    OutOfMemory,
+}
+
+impl From<OutOfMemory> for TextError {
+    fn from(_: OutOfMemory) -> TextError {
+        TextError::OutOfMemory
+    }
+}
