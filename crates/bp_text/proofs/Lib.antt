@@ -4,3 +4,4 @@ pub mod ScanSteps
 pub mod NumberSteps
 pub mod TokenSteps
 pub mod Ahead
+pub mod Readings
