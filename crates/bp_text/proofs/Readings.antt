@@ -1,5 +1,6 @@
 -- Readings from a cursor, one after the other.
-use Rattle.std.proofs.Common.{◌≡◌, sym, ap, subst, Bool, true, false, List, [], ◌∷◌, Result, Ok, Err}
+use Rattle.std.proofs.Common.{◌≡◌, sym, ap, subst, Bool, true, false, List, [], ◌∷◌, Result, Ok, Err, IsErrAnd}
+use Rattle.std.proofs.lemmas.Result.{err_from_is_err_and}
 use Rattle.readers.specs.Reader.{Outcome, more, after, mapped, branch}
 use Rattle.readers.proofs.Loops.{after_whole, after_more, after_bad}
 use Rattle.readers.proofs.Leaves.{pick_true, pick_false}
@@ -60,3 +61,43 @@ pub branch_not : {A : Type 0} (C : Token → Bool) (r q : List Token → Outcome
     → branch C r q ts ≡ q ts
 branch_not C r q [] none is = sym none
 branch_not C r q (t ∷ ts) none is = pick_false (C t) (r (t ∷ ts)) (q (t ∷ ts)) is
+
+-- ---- what `?` hands on
+
+pub halted : {A : Type 0} (o : Outcome Token Why A) (old new : Unread) (stop : Halt) (result : Result A Halt) → IsErrAnd result (λ e. e ≡ stop)
+    → Gives o old new (Err stop) → Gives o old new result
+halted o old new stop result is gives = let p = err_from_is_err_and result is in rw (p.1, p.2) gives
+
+-- ---- the same with a name, so that the parts of a longer reading need not be written out
+
+pub record Read {A : Type 0} (o : Outcome Token Why A) (old new : Unread) (result : Result A Halt) : Type 0 where
+  pub gives : Gives o old new result
+
+pub told : {A : Type 0} (o : Outcome Token Why A) (old new : Unread) (result : Result A Halt) → Gives o old new result → Read o old new result
+told o old new result is = record { gives = is }
+
+pub shown : {A : Type 0} (o : Outcome Token Why A) (old new : Unread) (result : Result A Halt) → Read o old new result → Gives o old new result
+shown o old new result is = is.gives
+
+pub handed : {A : Type 0} (o : Outcome Token Why A) (old new : Unread) (stop : Halt) (result : Result A Halt) → IsErrAnd result (λ e. e ≡ stop)
+    → Read o old new (Err stop) → Gives o old new result
+handed o old new stop result is reading = halted o old new stop result is reading.gives
+
+pub same : {A : Type 0} {o p : Outcome Token Why A} {old new : Unread} {result : Result A Halt} → o ≡ p → Read p old new result → Read o old new result
+same {o = o} {p = p} {old = old} {new = new} {result = result} e is = record { gives = gives_as o p old new result e is.gives }
+
+pub next : {A B : Type 0} (f : A → List Token → Outcome Token Why B) {o : Outcome Token Why A} {old mid new : Unread} {a : A} {result : Result B Halt}
+    → Read o old mid (Ok a) → Read (f a (ahead mid)) mid new result → Read (after o f) old new result
+next f {o = o} {old = old} {mid = mid} {new = new} {a = a} {result = result} is later =
+    record { gives = gives_next o f old mid new a result is.gives later.gives }
+
+pub fails : {A B : Type 0} (f : A → List Token → Outcome Token Why B) {o : Outcome Token Why A} {old new : Unread} {stop : Halt} → Read o old new (Err stop)
+    → Read (after o f) old new (Err stop)
+fails f {o = o} {old = old} {new = new} {stop = stop} is = record { gives = gives_failed o f old new stop is.gives }
+
+pub made : {A B : Type 0} (g : A → B) {o : Outcome Token Why A} {old new : Unread} {a : A} → Read o old new (Ok a) → Read (mapped g o) old new (Ok (g a))
+made g {o = o} {old = old} {new = new} {a = a} is = record { gives = gives_made o g old new a is.gives }
+
+pub unmade : {A B : Type 0} (g : A → B) {o : Outcome Token Why A} {old new : Unread} {stop : Halt} → Read o old new (Err stop)
+    → Read (mapped g o) old new (Err stop)
+unmade g {o = o} {old = old} {new = new} {stop = stop} is = record { gives = gives_unmade o g old new stop is.gives }
