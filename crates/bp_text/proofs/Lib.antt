@@ -5,3 +5,5 @@ pub mod NumberSteps
 pub mod TokenSteps
 pub mod Ahead
 pub mod Readings
+pub mod OneToken
+pub mod Turns

@@ -1,7 +1,8 @@
 // The tokens of a text, each cut when it is the next one.
 ghost use Rattle.std.specs.Prelude.{◌≡◌, IfOk, []};
 ghost use Rattle.bp_text_grammar.specs.Scanning.{lex};
-ghost use Rattle.bp_text_grammar.specs.Texts.{is_mark, is_word, mark_at, word_at};
+ghost use Rattle.readers.specs.Reader.{one};
+ghost use Rattle.bp_text_grammar.specs.Texts.{BadText, is_mark, is_word, mark_at, word_at};
 ghost use Rattle.bp_text_grammar.specs.WholeTexts as texts;
 ghost use Rattle.bp_text.specs.Given.{token_of};
 ghost use Rattle.bp_text.specs.Unread.{ahead, is_first, left_of, taken_at, IsFirst, IsAhead, ReadsFrom, TakesFirst};
@@ -90,6 +91,11 @@ impl<'a> Cursor<'a> {
         self.after
     }
 
+    /// Where values are made.
+    pub fn alloc(&self) -> Global {
+        self.alloc
+    }
+
     /// Whether the text leaves a text or a char open, where no token is left.
     pub fn is_open(&self) -> bool
         ensures { lex self.now.rest ≡ [] → result ≡ self.now.opens }
@@ -155,6 +161,22 @@ impl<'a> Cursor<'a> {
         match self.first() {
             Some(_) => Err(Halt::Bad),
             None => Err(Halt::More),
+        }
+    }
+
+    /// Takes the first token where it has a value: else it is at fault.
+    pub fn take_as<T: Drop>(&mut self, value: Option<T>) -> Result<T, Halt>
+        ensures { ReadsFrom (one (λ t. value) BadText) self.old self.new result }
+    {
+        match value {
+            Some(value) => {
+                self.take()?;
+                Ok(value)
+            }
+            None => {
+                self.pass(false)?;
+                Err(Halt::Bad)
+            }
         }
     }
 

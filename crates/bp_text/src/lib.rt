@@ -9,6 +9,7 @@ mod error;
 mod halt;
 mod quoted;
 mod scanning;
+mod sexps;
 mod stop;
 #[cfg(test)]
 mod tests;
