@@ -7,3 +7,10 @@ pub mod Ahead
 pub mod Readings
 pub mod OneToken
 pub mod Turns
+pub mod ReadSteps
+pub mod PartSteps
+pub mod CaseSteps
+pub mod ItemSteps
+pub mod PostSteps
+pub mod RoomSteps
+pub mod MemberSteps

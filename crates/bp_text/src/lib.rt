@@ -10,6 +10,8 @@ mod halt;
 mod quoted;
 mod scanning;
 mod sexps;
+mod shape_parts;
+mod shapes;
 mod stop;
 #[cfg(test)]
 mod tests;

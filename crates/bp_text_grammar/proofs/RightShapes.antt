@@ -114,7 +114,7 @@ module _ {A : Type 0} (sep close : ℕ) (apart : nat_eq sep close ≡ false) (E 
 -- ---- parts of shapes, over bases that are read rightly
 
 module _ (B : Shape → List Token → Type 0) (r : List Token → Outcome Token Why Shape) (right : Reads FloatWord Any B r) (has : HasText B) where
-  part_reads : Reads FloatWord (IsNot is_post) (IsPart B) (part_at r)
+  pub part_reads : Reads FloatWord (IsNot is_post) (IsPart B) (part_at r)
   part_reads =
       then_reads (IsNot is_post) B r (λ b. Mapped (λ ws. posted b ws) (Run is_post most_posts)) (λ b us. mapped (λ ws. posted b ws) (run is_post BadText most_posts us))
       right (λ b. mapped_reads (IsNot is_post) (λ ws. posted b ws) (Run is_post most_posts) (run is_post BadText most_posts)

@@ -1,0 +1,128 @@
+-- Bases by the brackets that may still be opened, and the readers of what stands in them.
+use Rattle.std.proofs.Common.{◌≡◌, ◌≢◌, refl, sym, ap, ◌∙◌, subst, ℕ, zero, suc, ◌-◌, Bool, true, false, not, ◌||◌, List, [], ◌∷◌, length, inl, inr, arith}
+use Rattle.readers.specs.Reader.{Outcome, whole, more, Any, Follows, Is, IsNot, Right, Plain, branch}
+use Rattle.readers.proofs.Readers.{each-any}
+use Rattle.readers.proofs.Leaves.{is_or, pick_true, pick_false}
+use Rattle.readers.proofs.Loops.{others_go_on, others_end, others_done}
+use Rattle.bp_value.specs.declared.shape.Shape.{Shape}
+use Rattle.bp_text_grammar.specs.Tokens.{Token, Word, Number, Big, Text, Char, Mark, Wrong, OpenText, OpenChar}
+use Rattle.bp_text_grammar.specs.Texts.{Why, BadText, round_open, curly_open, square_open, bar, square_close, is_mark}
+use Rattle.bp_text_grammar.specs.ShapeTexts.{is_star, is_post, ends_shape, ends_case, IsPart, IsField, IsSumCase, IsPolyCase, IsBase, base_word_at, part_at, more_factors_at, field_at, sum_case_at, poly_case_at, round_at, curly_at, square_at, base_at}
+use Rattle.bp_text_grammar.proofs.RightShapes.{base_text, base_reads, part_reads, field_reads, sum_case_reads, poly_case_reads}
+use Rattle.bp_text.specs.Unread.{is_first}
+use Rattle.bp_text.proofs.ItemSteps.{Going, Between}
+
+-- ---- by the first token
+
+pub branch_one : {A : Type 0} (C : Token → Bool) (r q : List Token → Outcome Token Why A) (ts : List Token) → is_first C ts ≡ true → branch C r q ts ≡ r ts
+branch_one C r q [] is = absurd cc
+branch_one C r q (t ∷ ts) is = pick_true (C t) _ _ is
+
+pub branch_two : {A : Type 0} (C : Token → Bool) (r q : List Token → Outcome Token Why A) (ts : List Token) → q [] ≡ more → is_first C ts ≡ false
+    → branch C r q ts ≡ q ts
+branch_two C r q [] none is = sym none
+branch_two C r q (t ∷ ts) none is = pick_false (C t) _ _ is
+
+one_less : (d : ℕ) → suc d - 1 ≡ d
+one_less d = omega arith
+
+pub base_none : (room : ℕ) (ts : List Token) → room ≡ 0 → base_at room ts ≡ base_word_at ts
+unfolding base_at
+base_none zero ts none = refl
+base_none (suc d) ts none = absurd (omega arith)
+
+-- what a base may begin with
+abbrev squares : ℕ → List Token → Outcome Token Why Shape
+squares d = branch (is_mark square_open) (square_at (base_at d)) base_word_at
+
+abbrev curlies : ℕ → List Token → Outcome Token Why Shape
+curlies d = branch (is_mark curly_open) (curly_at (base_at d)) (squares d)
+
+module _ (ts : List Token) where
+  pub base_round : (room : ℕ) → room ≢ 0 → is_first (is_mark round_open) ts ≡ true → base_at room ts ≡ round_at (base_at (room - 1)) ts
+  unfolding base_at
+  base_round zero some is = absurd (some refl)
+  base_round (suc d) some is =
+      branch_one (is_mark round_open) (round_at (base_at d)) (curlies d) ts is ∙ ap (λ k. round_at (base_at k) ts) (sym (one_less d))
+
+  pub base_curly : (room : ℕ) → room ≢ 0 → is_first (is_mark round_open) ts ≡ false → is_first (is_mark curly_open) ts ≡ true
+      → base_at room ts ≡ curly_at (base_at (room - 1)) ts
+  unfolding base_at
+  base_curly zero some no_round is = absurd (some refl)
+  base_curly (suc d) some no_round is =
+      branch_two (is_mark round_open) (round_at (base_at d)) (curlies d) ts refl no_round
+      ∙ (branch_one (is_mark curly_open) (curly_at (base_at d)) (squares d) ts is ∙ ap (λ k. curly_at (base_at k) ts) (sym (one_less d)))
+
+  pub base_square : (room : ℕ) → room ≢ 0 → is_first (is_mark round_open) ts ≡ false → is_first (is_mark curly_open) ts ≡ false
+      → is_first (is_mark square_open) ts ≡ true → base_at room ts ≡ square_at (base_at (room - 1)) ts
+  unfolding base_at
+  base_square zero some no_round no_curly is = absurd (some refl)
+  base_square (suc d) some no_round no_curly is =
+      branch_two (is_mark round_open) (round_at (base_at d)) (curlies d) ts refl no_round
+      ∙ (branch_two (is_mark curly_open) (curly_at (base_at d)) (squares d) ts refl no_curly
+      ∙ (branch_one (is_mark square_open) (square_at (base_at d)) base_word_at ts is ∙ ap (λ k. square_at (base_at k) ts) (sym (one_less d))))
+
+  pub base_plain : (room : ℕ) → room ≢ 0 → is_first (is_mark round_open) ts ≡ false → is_first (is_mark curly_open) ts ≡ false
+      → is_first (is_mark square_open) ts ≡ false → base_at room ts ≡ base_word_at ts
+  unfolding base_at
+  base_plain zero some no_round no_curly no_square = absurd (some refl)
+  base_plain (suc d) some no_round no_curly no_square =
+      branch_two (is_mark round_open) (round_at (base_at d)) (curlies d) ts refl no_round
+      ∙ (branch_two (is_mark curly_open) (curly_at (base_at d)) (squares d) ts refl no_curly
+      ∙ branch_two (is_mark square_open) (square_at (base_at d)) base_word_at ts refl no_square)
+
+-- ---- items
+
+pub right_part : (room : ℕ) → Right Any (IsNot is_post) (IsPart (IsBase room)) Plain (part_at (base_at room))
+right_part room = (part_reads (IsBase room) (base_at room) (base_reads room) (base_text room)).right
+
+pub right_field : (room : ℕ) → Right Any (Is ends_shape) (IsField (IsBase room)) Plain (field_at (base_at room))
+right_field room = (field_reads (IsBase room) (base_at room) (base_reads room) (base_text room)).right
+
+pub right_sum_case : (room : ℕ) → Right Any (Is ends_case) (IsSumCase (IsBase room)) Plain (sum_case_at (base_at room))
+right_sum_case room = (sum_case_reads (IsBase room) (base_at room) (base_reads room) (base_text room)).right
+
+pub right_poly_case : (room : ℕ) → Right Any (Is ends_case) (IsPolyCase (IsBase room)) Plain (poly_case_at (base_at room))
+right_poly_case room = (poly_case_reads (IsBase room) (base_at room) (base_reads room) (base_text room)).right
+
+-- the marks after a case may follow it
+pub case_apart : (c : Token) → ends_case c ≡ false → (is_mark square_close c ≡ false) × (is_mark bar c ≡ false)
+case_apart (Word w) e = (refl, refl)
+case_apart (Number n) e = (refl, refl)
+case_apart Big e = (refl, refl)
+case_apart (Text w) e = (refl, refl)
+case_apart (Char b) e = (refl, refl)
+case_apart (Mark b) e = elim (is_or (is_star (Mark b))) [
+  | inl is ↦ (grind arith, grind arith)
+  | inr is ↦ absurd cc
+]
+case_apart Wrong e = (refl, refl)
+case_apart OpenText e = (refl, refl)
+case_apart OpenChar e = (refl, refl)
+
+-- ---- factors
+
+ends_by : (t : Token) → is_star t ≡ false → is_post t ≡ false → ends_shape t ≡ true
+ends_by t e d = ap (λ b. not (b || is_post t)) e ∙ ap not d
+
+-- a part leaves no word after it that makes a list or an option of it
+part_leaves : (room : ℕ) (s u : List Token) (v : Shape) → part_at (base_at room) s ≡ whole v u → Follows (IsNot is_post) u
+part_leaves room s u v is = let (t, cut, l, f) = (right_part room).sound s v u (each-any s) is in f
+
+pub factors_end : (room : ℕ) (front : List Shape) (s u : List Token) (v : Shape) (total : Outcome Token Why (List Shape))
+    → part_at (base_at room) s ≡ whole v u → is_first is_star u ≡ false → Between (more_factors_at (base_at room)) front u total → total ≡ whole front u
+factors_end room front s u v total is other between = go u (part_leaves room s u v is) other between
+  where
+    go : (u : List Token) → Follows (IsNot is_post) u → is_first is_star u ≡ false → Between (more_factors_at (base_at room)) front u total → total ≡ whole front u
+    go [] f o b = sym b ∙ others_done (part_at (base_at room)) (λ vs x. whole vs x) front is_star ends_shape BadText (length {A = Token} [])
+    go (c ∷ u) f o b = sym b ∙ others_end (part_at (base_at room)) (λ vs x. whole vs x) front is_star ends_shape BadText (length (c ∷ u)) c u o (ends_by c o f)
+
+pub factors_go : (room : ℕ) (front : List Shape) (s u : List Token) (t : Token) (total : Outcome Token Why (List Shape)) → s ≡ t ∷ u
+    → is_first is_star s ≡ true → Between (more_factors_at (base_at room)) front s total
+    → Going (part_at (base_at room)) (more_factors_at (base_at room)) front u total
+factors_go room front [] u t total cut is between = absurd cc
+factors_go room front (c ∷ s) u t total cut is between =
+    let su : s ≡ u = cc in
+    subst (λ x. Going (part_at (base_at room)) (more_factors_at (base_at room)) front x total) su
+    (sym (others_go_on Any (IsNot is_post) (IsPart (IsBase room)) Plain (part_at (base_at room)) (right_part room) (λ vs x. whole vs x) front is_star ends_shape BadText c s (each-any s) is)
+    ∙ between)
