@@ -14,3 +14,4 @@ pub mod ItemSteps
 pub mod PostSteps
 pub mod RoomSteps
 pub mod MemberSteps
+pub mod WholeSteps

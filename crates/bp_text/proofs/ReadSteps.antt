@@ -1,10 +1,10 @@
 -- How readings of parts make a reading of what they are parts of.
-use Rattle.std.proofs.Common.{◌≡◌, ap, ◌∙◌, Option, Some, List, ◌∷◌, length, Result, Ok, Err}
+use Rattle.std.proofs.Common.{◌≡◌, ap, ◌∙◌, Option, Some, ◌∷◌, length, Result, Ok, Err}
 use Rattle.std.specs.Result.{IsErrAnd}
 use Rattle.std.proofs.lemmas.Result.{err_from_is_err_and}
-use Rattle.readers.specs.Reader.{Outcome, after, mapped, one, leaf}
+use Rattle.readers.specs.Reader.{after, mapped, one, leaf}
 use Rattle.bp_text_grammar.specs.Tokens as grammar
-use Rattle.bp_text_grammar.specs.Texts.{Why, BadText}
+use Rattle.bp_text_grammar.specs.Texts.{BadText}
 use Rattle.bp_text.specs.declared.halt.Halt.{Halt}
 use Rattle.bp_text.specs.declared.halt.Halt.TheVariants as halt
 use Rattle.bp_text.specs.declared.token.Token.{Token}

@@ -15,6 +15,11 @@ pub enum TextError {
 }
 
 impl From<OutOfMemory> for TextError {
+    ghost use Rattle.std.specs.Prelude.{◌≡◌};
+    ghost use Rattle.bp_text.specs.declared.error.TextError.TheVariants as error;
+
+    ghost from_gives = { λ _ e. e ≡ error.OutOfMemory };
+
     fn from(_: OutOfMemory) -> TextError {
         TextError::OutOfMemory
     }

@@ -11,8 +11,12 @@ mod quoted;
 mod scanning;
 mod sexps;
 mod shape_parts;
+mod shape_texts;
 mod shapes;
 mod stop;
 #[cfg(test)]
 mod tests;
 mod token;
+
+pub use error::TextError;
+pub use shape_texts::read_shape;
