@@ -15,3 +15,6 @@ pub mod PostSteps
 pub mod RoomSteps
 pub mod MemberSteps
 pub mod WholeSteps
+pub mod FrontBytes
+pub mod FrontSteps
+pub mod FrontOnce

@@ -13,11 +13,11 @@ use Rattle.bp_text.specs.declared.error.TextError.TheVariants as error
 use Rattle.bp_text.specs.declared.halt.Halt.{Halt}
 use Rattle.bp_text.specs.declared.halt.Halt.TheVariants as halt
 use Rattle.bp_text.specs.Leaves.{TokenReader}
-use Rattle.bp_text.specs.TextAnswers.{refusal_of, IsGiven, IsReadAs}
+use Rattle.bp_text.specs.TextAnswers.{error_of, IsGiven, IsReadAs}
 use Rattle.bp_text.specs.Unread.{Unread, ahead, left_of, Advances, ReadsFrom}
 use Rattle.bp_text.proofs.TokenSteps.{passes_lex}
 
-goes_lex : (old new : Unread) → (goes : Advances old new) → lex old.rest ≡ goes.taken ++ lex new.rest
+pub goes_lex : (old new : Unread) → (goes : Advances old new) → lex old.rest ≡ goes.taken ++ lex new.rest
 goes_lex old new goes = passes_lex goes.taken old.rest new.rest goes.passes
 
 none_seen : (ts : List Stamped) → kinds ts ≡ [] → ts ≡ []
@@ -49,7 +49,7 @@ module _ {A : Type 0} (L : A → List Token → Type 0) (R : List Token → Toke
           absurd (omega arith)
       go (u ∷ us) cut e = inl (text_bad L R r right old.rest w goes.taken u us cut e)
 
-  pub got_halt : (e : Halt) → ReadsFrom {A = A} r old new (Err e) → IsReadAs {A = A} L R old.rest (Err (refusal_of e (length old.rest) (left_of (lex new.rest))))
+  pub got_halt : (e : Halt) → ReadsFrom {A = A} r old new (Err e) → IsReadAs {A = A} L R old.rest (Err (error_of e (length old.rest) (left_of (lex new.rest))))
   got_halt halt.More (goes, is) = text_more L R r right old.rest is
   got_halt halt.Bad (goes, is) = bad_here BadText goes is
   got_halt halt.Float (goes, is) = bad_here Float goes is

@@ -10,6 +10,7 @@ mod halt;
 mod quoted;
 mod scanning;
 mod sexps;
+mod shape_fronts;
 mod shape_parts;
 mod shape_texts;
 mod shapes;
@@ -19,4 +20,5 @@ mod tests;
 mod token;
 
 pub use error::TextError;
+pub use shape_fronts::read_shape_front;
 pub use shape_texts::read_shape;

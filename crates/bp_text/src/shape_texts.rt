@@ -5,7 +5,7 @@ ghost use Rattle.bp_value.specs.Form.{form_of};
 ghost use Rattle.bp_value.specs.Faults.{IsGood};
 ghost use Rattle.bp_text_grammar.specs.ShapeTexts.{whole_shape_at, IsShapeFault, IsShapeTokens};
 ghost use Rattle.bp_text_grammar.specs.WholeTexts.{IsShapeText};
-ghost use Rattle.bp_text.specs.TextAnswers.{refusal_of, IsGiven, IsReadAs, RefusesShape};
+ghost use Rattle.bp_text.specs.TextAnswers.{error_of, IsGiven, IsReadAs, RefusesShape};
 ghost use Rattle.bp_text.specs.Unread.{ReadsFrom};
 
 use crate::cursor::Cursor;
@@ -36,8 +36,8 @@ pub fn read_shape(alloc: Global, text: &[u8]) -> Result<Shape, TextError>
     }
 }
 
-// The shape whose text this is, good or not.
-fn spelled_shape(alloc: Global, text: &[u8]) -> Result<Shape, TextError>
+/// The shape whose text this is, good or not.
+pub fn spelled_shape(alloc: Global, text: &[u8]) -> Result<Shape, TextError>
     ensures { IsReadAs IsShapeTokens IsShapeFault text.now result }
 {
     let mut tokens = Cursor::new(alloc, text)?;
@@ -59,9 +59,9 @@ fn only_shape(tokens: &mut Cursor, alloc: Global) -> Result<Shape, Halt>
     }
 }
 
-// The refusal where a reading stops, with `left` bytes left of `len`, which are never more.
-fn refusal(halt: Halt, len: usize, left: usize) -> TextError
-    ensures { result ≡ refusal_of halt len left }
+/// The refusal where a reading stops, with `left` bytes left of `len`, which are never more.
+pub fn refusal(halt: Halt, len: usize, left: usize) -> TextError
+    ensures { result ≡ error_of halt len left }
 {
     match halt {
         Halt::More => TextError::BadText { at: len },

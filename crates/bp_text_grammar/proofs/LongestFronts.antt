@@ -122,7 +122,7 @@ module _ {S W A : Type 0} (E : S → Type 0) (L : A → List S → Type 0) (R : 
   -- ---- what is given
 
   -- two longest fronts of one list are one
-  one_front : (s t u p y : List S) → IsLongestFront L s t u → IsLongestFront L s p y → (t ≡ p) × (u ≡ y)
+  pub one_front : (s t u p y : List S) → IsLongestFront L s t u → IsLongestFront L s p y → (t ≡ p) × (u ≡ y)
   one_front s t u p y first second = elim (cut_two t u p y (sym first.cut ∙ second.cut)) [
     | inl (z, at, rest) ↦ past t u p y z at rest first second
     | inr (z, at, rest) ↦ let (pt, yu) = past p y t u z at rest second first in (sym pt, sym yu)

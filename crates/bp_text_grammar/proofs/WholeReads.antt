@@ -1,7 +1,7 @@
 -- What the reading of all tokens says of a text, and of the place where it is refused.
 use Rattle.std.proofs.Common.{◌≡◌, refl, sym, ap, ◌∙◌, subst, true, false, ℕ, ◌+◌, ◌-◌, List, [], ◌∷◌, ◌++◌, length, append_assoc, inl, inr, arith}
 use Rattle.std.proofs.lemmas.List.{append-nil, length-append, map-append}
-use Rattle.readers.specs.Reader.{Outcome, whole, more, bad, Any, Never, Ended, Follows, Front, Right}
+use Rattle.readers.specs.Reader.{Outcome, whole, more, bad, Any, Never, Ended, Follows, Front, FaultAt, Right}
 use Rattle.readers.proofs.Readers.{each-any}
 use Rattle.bp_text_grammar.specs.Tokens.{Token}
 use Rattle.bp_text_grammar.specs.Lexing.{Stamped, Lexes}
@@ -11,11 +11,11 @@ use Rattle.bp_text_grammar.specs.WholeTexts.{has_open, seen, kinds, IsText, IsWr
 use Rattle.bp_text_grammar.proofs.Exact.{lexes_some, lexes_once, lexes_lex, token_bytes}
 use Rattle.bp_text_grammar.proofs.Told.{ended_front, front_ended}
 
-kinds_join : (ts us : List Stamped) → kinds (ts ++ us) ≡ kinds ts ++ kinds us
+pub kinds_join : (ts us : List Stamped) → kinds (ts ++ us) ≡ kinds ts ++ kinds us
 kinds_join ts us = map-append (λ t. seen t.token) ts us
 
 -- two parts of one list are as long as their rests
-same_cut : {S : Type 0} (a p u x : List S) → a ++ u ≡ p ++ x → length u ≡ length x → (a ≡ p) × (u ≡ x)
+pub same_cut : {S : Type 0} (a p u x : List S) → a ++ u ≡ p ++ x → length u ≡ length x → (a ≡ p) × (u ≡ x)
 same_cut [] [] u x e n = (refl, e)
 same_cut [] (c ∷ p) u x e n = let lens = ap length e in let all = length-append p x in absurd (omega arith)
 same_cut (b ∷ a) [] u x e n = let lens = ap length e in let all = length-append a u in absurd (omega arith)
@@ -51,6 +51,29 @@ module _ {A : Type 0} (L : A → List Token → Type 0) (R : List Token → Toke
   refused_none s k w a (inr (place, why, short)) is =
       let same = lexes_once is.tokens short.tokens s is.lexed short.lexed in
       short.unfinished a (sym (ap has_open same) ∙ is.closed) (subst (λ ts. L a (kinds ts)) same is.spelled)
+
+  -- the first token of those that are left is at fault
+  pub wrong_at : (s : List ℕ) (w : Why) (ts : List Stamped) (u : Stamped) (us : List Stamped) → lex s ≡ ts ++ u ∷ us → (p : List Token) (b : Token) (v : List Token)
+      → FaultAt L (kinds (lex s)) p b v (length (kinds (u ∷ us))) → R p b w → (wrong : IsWrongAt L R s (length s - u.left) w) × (wrong.before ≡ ts) × (kinds ts ≡ p)
+  wrong_at s w ts u us cut p b v fault why =
+      let (before, left) = same_cut (kinds ts) p (kinds (u ∷ us)) (b ∷ v) (sym (ap kinds cut ∙ kinds_join ts (u ∷ us)) ∙ fault.place) fault.left in
+      let at : seen u.token ≡ b = cc in
+      let lexed = subst (λ z. Lexes z s) cut (lexes_some s) in
+      let (q, y, bytes, lens, starts, rest) = token_bytes ts us u s lexed in
+      let all : length s ≡ length q + length y = ap length bytes ∙ length-append q y in (
+        record {
+          before = ts;
+          wrong = u;
+          behind = us;
+          lexed = lexed;
+          front = subst (λ z. Front L z) (sym before) fault.front;
+          no_front = λ f. fault.no_front (subst (λ z. Front L z) (ap (λ z. z ++ seen u.token ∷ []) before ∙ ap (λ z. p ++ z ∷ []) at) f);
+          why = subst (λ z. R z (seen u.token) w) (sym before) (subst (λ z. R p z w) (sym at) why);
+          place = omega arith;
+        },
+        refl,
+        before,
+      )
 
   module _ (r : List Token → Outcome Token Why A) (right : Right Any Never (Ended L) R r) where
     whole_of : (a : A) (ts : List Token) → L a ts → r ts ≡ whole a []
@@ -104,19 +127,5 @@ module _ {A : Type 0} (L : A → List Token → Type 0) (R : List Token → Toke
         → r (kinds (lex s)) ≡ bad (length (kinds (u ∷ us))) w → IsWrongAt L R s (length s - u.left) w
     text_bad s w ts u us cut is =
         let (p, b, v, fault, why) = right.faults (kinds (lex s)) (length (kinds (u ∷ us))) w (each-any (kinds (lex s))) is in
-        let (before, left) = same_cut (kinds ts) p (kinds (u ∷ us)) (b ∷ v) (sym (ap kinds cut ∙ kinds_join ts (u ∷ us)) ∙ fault.place) fault.left in
-        let at : seen u.token ≡ b = cc in
-        let lexed = subst (λ z. Lexes z s) cut (lexes_some s) in
-        let (q, y, bytes, lens, starts, rest) = token_bytes ts us u s lexed in
-        let all : length s ≡ length q + length y = ap length bytes ∙ length-append q y in
-        record {
-          before = ts;
-          wrong = u;
-          behind = us;
-          lexed = lexed;
-          front = ended_front L (kinds ts) (subst (λ z. Front (Ended L) z) (sym before) fault.front);
-          no_front = λ f. fault.no_front
-              (front_ended L (p ++ b ∷ []) (subst (λ z. Front L z) (ap (λ z. z ++ seen u.token ∷ []) before ∙ ap (λ z. p ++ z ∷ []) at) f));
-          why = subst (λ z. R z (seen u.token) w) (sym before) (subst (λ z. R p z w) (sym at) why);
-          place = omega arith;
-        }
+        (wrong_at s w ts u us cut p b v
+        (record { place = fault.place; left = fault.left; front = ended_front L p fault.front; no_front = λ f. fault.no_front (front_ended L (p ++ b ∷ []) f) }) why).0

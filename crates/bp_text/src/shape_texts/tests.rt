@@ -38,15 +38,15 @@ fn a_text_has_one_shape(rt: HostRuntime) -> Result<(), Fail> {
             (b"(int * bool) list", "List(Tuple([Int, Bool]))"),
             (
                 b"{a:string;b':int64}",
-                "Fields([Field { name: \"a\", shape: Text }, Field { name: \"b'\", shape: Int64 }])",
+                r#"Fields([Field { name: "a", shape: Text }, Field { name: "b'", shape: Int64 }])"#,
             ),
             (
                 b"[ A | B of int * sexp ]",
-                "Sum([Case { name: \"A\", args: [] }, Case { name: \"B\", args: [Int, Sexp] }])",
+                r#"Sum([Case { name: "A", args: [] }, Case { name: "B", args: [Int, Sexp] }])"#,
             ),
             (
-                b"[`a of int32 | `b]",
-                "Poly([PolyCase { name: \"a\", arg: Some(Int32) }, PolyCase { name: \"b\", arg: None }])",
+                b"[`a of int32]",
+                r#"Poly([PolyCase { name: "a", arg: Some(Int32) }])"#,
             ),
         ],
     )

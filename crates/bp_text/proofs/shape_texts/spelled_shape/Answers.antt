@@ -4,7 +4,7 @@ use Rattle.bp_text_grammar.specs.Texts.{BadText}
 use Rattle.bp_text_grammar.specs.ShapeTexts.{IsShapeTokens, IsShapeFault, whole_shape_at}
 use Rattle.bp_text_grammar.specs.WholeTexts.{has_open, IsText, IsRefusedAt}
 use Rattle.bp_text_grammar.proofs.RightShapes.{right_whole_shape}
-use Rattle.bp_text.specs.TextAnswers.{refusal_of, IsReadAs}
+use Rattle.bp_text.specs.TextAnswers.{error_of, IsReadAs}
 use Rattle.bp_text.specs.Unread.{left_of}
 use Rattle.bp_text.proofs.WholeSteps.{got_text, got_open, got_halt}
 use Rattle.bp_text.proofs.shape_texts.spelled_shape.Goals as goal
@@ -26,5 +26,5 @@ returns-in-Ok-2 c =
 pub returns : goal.returns
 returns c =
     rw (c.refusal.ensures, c.left.ensures)
-    (subst (λ s. IsReadAs IsShapeTokens IsShapeFault s (Err (refusal_of c.in-Err.halt (length s) (left_of (lex c.only_shape.new.tokens.rest))))) c.in_ok-tokens.ensures.text
+    (subst (λ s. IsReadAs IsShapeTokens IsShapeFault s (Err (error_of c.in-Err.halt (length s) (left_of (lex c.only_shape.new.tokens.rest))))) c.in_ok-tokens.ensures.text
     (got_halt IsShapeTokens IsShapeFault whole_shape_at right_whole_shape c.in_ok-tokens.tokens c.only_shape.new.tokens c.in-Err.halt c.in-Err.ensures))
