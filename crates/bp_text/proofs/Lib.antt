@@ -7,3 +7,7 @@ pub mod Ahead
 pub mod Readings
 pub mod OneToken
 pub mod Turns
+pub mod Parts
+pub mod Within
+pub mod CaseNames
+pub mod ValueSteps

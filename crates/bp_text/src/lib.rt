@@ -14,3 +14,4 @@ mod stop;
 #[cfg(test)]
 mod tests;
 mod token;
+mod values;
