@@ -16,7 +16,7 @@ mod contents;
 mod decoding;
 mod encoding;
 mod error;
-mod heads;
+pub mod heads;
 mod held;
 mod leaves;
 mod levels;
@@ -27,7 +27,7 @@ mod reader;
 mod run;
 mod sexps;
 mod sizing;
-mod stop;
+pub mod stop;
 mod taking;
 
 pub use decoding::{Decoded, decode};
