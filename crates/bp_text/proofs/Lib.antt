@@ -3,3 +3,4 @@ pub mod QuotedSteps
 pub mod ScanSteps
 pub mod NumberSteps
 pub mod TokenSteps
+pub mod Appending

@@ -4,9 +4,12 @@
 //! of them: where no token stands, the last one says so, and no reader of tokens goes on with it.
 #![tactic(auto)]
 
+mod printing;
 mod quoted;
 mod scanning;
 mod stop;
 #[cfg(test)]
 mod tests;
 mod token;
+
+pub use printing::{put_decimal, put_quoted};
