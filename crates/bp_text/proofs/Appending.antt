@@ -1,9 +1,11 @@
 -- Bytes that are appended part by part.
-use Rattle.std.proofs.Common.{◌≡◌, refl, sym, ap, ◌∙◌, ℕ, zero, suc, ◌+◌, ◌<◌, ◌≤◌, List, [], ◌∷◌, ◌++◌, length, drop, get_or, slice_get, Some, Result, Ok, Err, add-one, append_assoc, append-nil, arith}
+use Rattle.std.proofs.Common.{◌≡◌, refl, ap, ◌∙◌, ℕ, zero, suc, ◌+◌, ◌<◌, ◌≤◌, List, [], ◌∷◌, ◌++◌, length, map, drop, get_or, slice_get, Some, Result, Ok, Err, add-one, append_assoc, arith}
 use Rattle.std.specs.List.{flat_map, join_by}
+use Rattle.std.specs.Option.{option_map}
 use Rattle.std.specs.Result.{IsErrAnd}
 use Rattle.std.proofs.Math.Seq.{drop-cons}
 use Rattle.std.proofs.lemmas.List.{drop_all}
+use Rattle.std.proofs.lemmas.Option.{slice_get-map, slice_get_read}
 use Rattle.std.proofs.lemmas.Result.{err_from_is_err_and}
 use Rattle.bp_value.specs.declared.memory.OutOfMemory.{OutOfMemory}
 use Rattle.bp_text.specs.Printing.{lead, Appends}
@@ -28,6 +30,10 @@ pub record Leads (whole old rest mid : List ℕ) : Type 0 where
 pub leads_from : (whole old : List ℕ) → Leads whole old whole old
 leads_from whole old = record { leads = λ r new p. p }
 
+-- after a first part
+pub leads_start : (a b whole old mid : List ℕ) → whole ≡ a ++ b → Appends a old mid (Ok tt) → Leads whole old b mid
+leads_start a b whole old mid is first = record { leads = λ r new second. rw is (appends_then a b old mid new r first second) }
+
 module _ (whole old rest mid : List ℕ) (loop : Leads whole old rest mid) where
   pub leads_next : (a b new : List ℕ) → rest ≡ a ++ b → Appends a mid new (Ok tt) → Leads whole old b new
   leads_next a b new is first = record { leads = λ r end second. loop.leads r end (rw is (appends_then a b mid new end r first second)) }
@@ -38,6 +44,14 @@ module _ (whole old rest mid : List ℕ) (loop : Leads whole old rest mid) where
 
   pub leads_last : (b new : List ℕ) (r : Result (Unit {0}) OutOfMemory) → rest ≡ b → Appends b mid new r → Appends whole old new r
   leads_last b new r is last = loop.leads r new (rw is last)
+
+-- ---- elements of lists
+
+pub read_at : {X : Type 0} (xs : List X) (i : ℕ) (x : X) → i < length xs → x ≡ get_or xs i x → slice_get xs i ≡ Some x
+read_at xs i x lt is = slice_get_read xs (length xs) i x refl lt is
+
+pub mapped_at : {X Y : Type 0} (g : X → Y) (xs : List X) (i : ℕ) (x : X) → i < length xs → x ≡ get_or xs i x → slice_get (map g xs) i ≡ Some (g x)
+mapped_at g xs i x lt is = slice_get-map g xs i ∙ ap (option_map g) (read_at xs i x lt is)
 
 -- ---- texts with a separator between each two, of which those from a place on are left
 

@@ -4,3 +4,6 @@ pub mod ScanSteps
 pub mod NumberSteps
 pub mod TokenSteps
 pub mod Appending
+pub mod PieceBytes
+pub mod ValueBytes
+pub mod OfForm

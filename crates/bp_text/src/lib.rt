@@ -4,6 +4,8 @@
 //! of them: where no token stands, the last one says so, and no reader of tokens goes on with it.
 #![tactic(auto)]
 
+mod contents;
+mod printed_values;
 mod printing;
 mod quoted;
 mod scanning;
@@ -12,4 +14,5 @@ mod stop;
 mod tests;
 mod token;
 
+pub use printed_values::{print_value, put_value};
 pub use printing::{put_decimal, put_quoted};

@@ -93,7 +93,10 @@ fn append_escaped(byte: u8, out: &mut Vec<u8>) -> Result<(), OutOfMemory>
     match byte {
         b'"' | b'\'' | b'\\' => append_bytes(&[b'\\', byte], out),
         b' '..=b'~' => append_byte(byte, out),
-        _ => append_bytes(&[b'\\', b'x', hex_digit(byte / 16), hex_digit(byte % 16)], out),
+        _ => append_bytes(
+            &[b'\\', b'x', hex_digit(byte / 16), hex_digit(byte % 16)],
+            out,
+        ),
     }
 }
 
