@@ -1,5 +1,5 @@
 -- Bytes that are appended part by part.
-use Rattle.std.proofs.Common.{◌≡◌, refl, ap, ◌∙◌, ℕ, zero, suc, ◌+◌, ◌<◌, ◌≤◌, List, [], ◌∷◌, ◌++◌, length, map, drop, get_or, slice_get, Some, Result, Ok, Err, add-one, append_assoc, arith}
+use Rattle.std.proofs.Common.{◌≡◌, refl, sym, ap, ◌∙◌, ℕ, zero, suc, ◌+◌, ◌<◌, ◌≤◌, List, [], ◌∷◌, ◌++◌, length, map, drop, get_or, slice_get, Some, Result, Ok, Err, add-one, append_assoc, append-nil, arith}
 use Rattle.std.specs.List.{flat_map, join_by}
 use Rattle.std.specs.Option.{option_map}
 use Rattle.std.specs.Result.{IsErrAnd}
@@ -27,8 +27,8 @@ appends_failed a b old new r e is first = let p = err_from_is_err_and r is in rw
 pub record Leads (whole old rest mid : List ℕ) : Type 0 where
   pub leads : (r : Result (Unit {0}) OutOfMemory) (new : List ℕ) → Appends rest mid new r → Appends whole old new r
 
-pub leads_from : (whole old : List ℕ) → Leads whole old whole old
-leads_from whole old = record { leads = λ r new p. p }
+pub leads_as : (whole old rest : List ℕ) → whole ≡ rest → Leads whole old rest old
+leads_as whole old rest is = record { leads = λ r new p. rw is p }
 
 -- after a first part
 pub leads_start : (a b whole old mid : List ℕ) → whole ≡ a ++ b → Appends a old mid (Ok tt) → Leads whole old b mid
@@ -44,6 +44,9 @@ module _ (whole old rest mid : List ℕ) (loop : Leads whole old rest mid) where
 
   pub leads_last : (b new : List ℕ) (r : Result (Unit {0}) OutOfMemory) → rest ≡ b → Appends b mid new r → Appends whole old new r
   leads_last b new r is last = loop.leads r new (rw is last)
+
+  pub leads_done : rest ≡ [] → Appends whole old mid (Ok tt)
+  leads_done is = loop.leads (Ok tt) mid (rw is (sym (append-nil mid)))
 
 -- ---- elements of lists
 

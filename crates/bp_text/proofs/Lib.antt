@@ -6,4 +6,6 @@ pub mod TokenSteps
 pub mod Appending
 pub mod PieceBytes
 pub mod ValueBytes
+pub mod ShapeBytes
+pub mod GoodInside
 pub mod OfForm

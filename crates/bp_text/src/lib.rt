@@ -5,6 +5,7 @@
 #![tactic(auto)]
 
 mod contents;
+mod printed_shapes;
 mod printed_values;
 mod printing;
 mod quoted;
@@ -14,5 +15,6 @@ mod stop;
 mod tests;
 mod token;
 
+pub use printed_shapes::print_shape;
 pub use printed_values::{print_value, put_value};
 pub use printing::{put_decimal, put_quoted};
