@@ -9,6 +9,9 @@ ghost use Rattle.bp_text.specs.Printing.{lead, Appends};
 
 use bp_value::OutOfMemory;
 
+#[cfg(test)]
+mod tests;
+
 /// Appends the bytes as a text in quotes: the quotes and the backslash after a backslash, other
 /// printable ASCII as itself, and each other byte as `\x` and two upper-case hex digits.
 pub fn put_quoted(bytes: &[u8], out: &mut Vec<u8>) -> Result<(), OutOfMemory>
