@@ -50,6 +50,9 @@ module _ (whole old rest mid : List ℕ) (loop : Leads whole old rest mid) where
 
 -- ---- elements of lists
 
+pub some_is : {A : Type 0} (x y : A) → Some x ≡ Some y → x ≡ y
+some_is x y e = cc
+
 pub read_at : {X : Type 0} (xs : List X) (i : ℕ) (x : X) → i < length xs → x ≡ get_or xs i x → slice_get xs i ≡ Some x
 read_at xs i x lt is = slice_get_read xs (length xs) i x refl lt is
 
@@ -66,10 +69,7 @@ abbrev pub rest_of : List ℕ → List (List ℕ) → ℕ → List ℕ
 rest_of separator texts zero = joined separator texts
 rest_of separator texts (suc i) = flat_map (λ t. separator ++ t) (drop (suc i) texts)
 
-some_is : {A : Type 0} (x y : A) → Some x ≡ Some y → x ≡ y
-some_is x y e = cc
-
-pub cut_at : {A : Type 0} (xs : List A) (i : ℕ) (x : A) → slice_get xs i ≡ Some x → drop i xs ≡ x ∷ drop (suc i) xs
+cut_at : {A : Type 0} (xs : List A) (i : ℕ) (x : A) → slice_get xs i ≡ Some x → drop i xs ≡ x ∷ drop (suc i) xs
 cut_at [] i x e = absurd cc
 cut_at (y ∷ xs) zero x e = ap (λ z. z ∷ xs) (some_is y x e)
 cut_at (y ∷ xs) (suc i) x e = cut_at xs i x e

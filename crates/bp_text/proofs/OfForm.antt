@@ -13,7 +13,7 @@ use Rattle.bp_value.specs.Fits.{IsMade, Anything, Fits, FitParts, FitCase}
 use Rattle.bp_value.proofs.Layers.{present_is, present_there, items_is, parts_is, case_place, case_is}
 use Rattle.bp_value.proofs.FitSteps.{parts_length}
 use Rattle.bp_text.specs.Printing.{IsOf, AreOf}
-use Rattle.bp_text.proofs.Appending.{read_at}
+use Rattle.bp_text.proofs.Appending.{read_at, some_is}
 
 -- ---- leaves
 
@@ -100,9 +100,6 @@ module _ (fs : Parts) (v : Value) where
     pub record_parts : IsOf (fields fs) v → AreOf fs vs
     unfolding Fits
     record_parts w = (w.0, made_of val.Parts parts_is (FitParts w.0 fs) v vs is w.1)
-
-some_is : {A : Type 0} (x y : A) → Some x ≡ Some y → x ≡ y
-some_is x y e = cc
 
 part_fits : (m : ℕ) (ps : List (List ℕ × Form)) (vs : List Value) (i : ℕ) (p : List ℕ × Form) (v : Value) → slice_get ps i ≡ Some p → slice_get vs i ≡ Some v
     → FitParts m (named_parts ps) vs → Fits m p.1 v

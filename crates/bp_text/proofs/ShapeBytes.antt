@@ -27,39 +27,83 @@ use Rattle.bp_text.specs.Printing.{piece_bytes, part_text, factors_text, field_t
 use Rattle.bp_text.proofs.Appending.{joined}
 use Rattle.bp_text.proofs.PieceBytes.{IsTight, tight_join, bytes_join, bytes_blank, bytes_after_blank, rest, rest_cons, joined_cons, list_bytes}
 
--- ---- parts
+-- ---- what holds of each shape
 
-abbrev IsPartTight : Shape → Type 0
-IsPartTight s = IsTight (as_part (shape_printed s))
+-- No blank stands before it where it is a part, nor where it is good. And only a tuple is printed as one.
+record Known (s : Shape) : Type 0 where
+  part : IsTight (as_part (shape_printed s))
+  whole : (d : ℕ) → AreGood (nodes d (form_of s)) → IsTight (shape_printed s).1
+  other : ((ss : List Shape) → s ≡ shp.Tuple ss → ⊥) → (shape_printed s).0 ≡ false
 
-abbrev TightPart : Type 0
-TightPart = (s : Shape) × IsPartTight s
+abbrev KnownShape : Type 0
+KnownShape = (s : Shape) × Known s
+
+-- one that is no tuple
+known : (s : Shape) (ps : List Piece) → shape_printed s ≡ (false, ps) → IsTight ps → Known s
+known s ps e tight = record {
+  part = subst (λ p. IsTight (as_part p)) (sym e) tight;
+  whole = λ d good. subst (λ p. IsTight p.1) (sym e) tight;
+  other = λ none. ap (λ p. p.0) e;
+}
+
+-- one with a word after a part
+applied : (s : Shape) (e : KnownShape) (w : List ℕ) → shape_printed s ≡ (false, as_part (shape_printed e.0) ++ spaced (Word w) ∷ []) → Known s
+applied s e w is = known s _ is (tight_join (as_part (shape_printed e.0)) (spaced (Word w) ∷ []) e.1.part)
+
+some_factors : (es : List KnownShape) → 2 ≤ length es → IsTight (factors (map shape_printed (map (λ e. e.0) es)))
+some_factors [] two = absurd (omega arith)
+some_factors (e ∷ es) two = tight_join (as_part (shape_printed e.0)) (more_factors (map shape_printed (map (λ e. e.0) es))) e.1.part
+
+tuple_known : (es : List KnownShape) → Known (shp.Tuple (map (λ e. e.0) es))
+tuple_known es = record {
+  part = subst (λ p. IsTight (as_part p)) (sym (printed_Tuple ss)) tt;
+  whole = λ d good. subst (λ p. IsTight p.1) (sym (printed_Tuple ss)) (some_factors es (two d good));
+  other = λ none. absurd (none ss refl);
+}
+  where
+    ss : List Shape
+    ss = map (λ e. e.0) es
+
+    two : (d : ℕ) → AreGood (nodes d (form_of (shp.Tuple ss))) → 2 ≤ length es
+    two d good =
+        let here : AreGood (nodes d (tuple (parts (map form_of ss)))) = subst (λ f. AreGood (nodes d f)) (form_of-Tuple ss) good in
+        let parts_two : 2 ≤ length (map unnamed (map form_of ss)) = (tuple_count d (map unnamed (map form_of ss)) (good_node d (tuple (parts (map form_of ss))) here)).0 in
+        omega (arith, parts_two, length-map (map form_of ss) unnamed, length-map ss form_of, length-map es (λ e. e.0))
 
 abbrev Any : {A : Type 0} → A → Type 0
 Any a = Unit {0}
 
--- no blank stands before a part
-pub part_tight : (s : Shape) → IsPartTight s
-part_tight = by_layers IsPartTight Any Any Any of (λ name args. tt) (λ name e. tt) (λ name e. tt)
-  where
-    of : (y : Shape-F TightPart ((c : Case) × Any c) ((f : Field) × Any f) ((c : PolyCase) × Any c))
-        → IsPartTight (roll-Shape (map-Shape TightPart ((c : Case) × Any c) ((f : Field) × Any f) ((c : PolyCase) × Any c) Shape Case Field PolyCase (λ e. e.0) (λ e. e.0) (λ e. e.0) (λ e. e.0) y))
-    of layer.Unit = subst (λ p. IsTight (as_part p)) (sym (layer_printed layer.Unit)) tt
-    of layer.Bool = subst (λ p. IsTight (as_part p)) (sym (layer_printed layer.Bool)) tt
-    of layer.Char = subst (λ p. IsTight (as_part p)) (sym (layer_printed layer.Char)) tt
-    of layer.Int = subst (λ p. IsTight (as_part p)) (sym (layer_printed layer.Int)) tt
-    of layer.Int32 = subst (λ p. IsTight (as_part p)) (sym (layer_printed layer.Int32)) tt
-    of layer.Int64 = subst (λ p. IsTight (as_part p)) (sym (layer_printed layer.Int64)) tt
-    of layer.Text = subst (λ p. IsTight (as_part p)) (sym (layer_printed layer.Text)) tt
-    of layer.Sexp = subst (λ p. IsTight (as_part p)) (sym (layer_printed layer.Sexp)) tt
-    of (layer.Opt e) =
-        subst (λ p. IsTight (as_part p)) (sym (layer_printed (layer.Opt e.0))) (tight_join (as_part (shape_printed e.0)) (spaced (Word (codes "option")) ∷ []) e.1)
-    of (layer.List e) =
-        subst (λ p. IsTight (as_part p)) (sym (layer_printed (layer.List e.0))) (tight_join (as_part (shape_printed e.0)) (spaced (Word (codes "list")) ∷ []) e.1)
-    of (layer.Tuple es) = subst (λ p. IsTight (as_part p)) (sym (layer_printed (layer.Tuple (map (λ e. e.0) es)))) tt
-    of (layer.Fields es) = subst (λ p. IsTight (as_part p)) (sym (layer_printed (layer.Fields (map (λ e. e.0) es)))) tt
-    of (layer.Sum es) = subst (λ p. IsTight (as_part p)) (sym (layer_printed (layer.Sum (map (λ e. e.0) es)))) tt
-    of (layer.Poly es) = subst (λ p. IsTight (as_part p)) (sym (layer_printed (layer.Poly (map (λ e. e.0) es)))) tt
+layer_known : (y : Shape-F KnownShape ((c : Case) × Any c) ((f : Field) × Any f) ((c : PolyCase) × Any c))
+    → Known (roll-Shape (map-Shape KnownShape ((c : Case) × Any c) ((f : Field) × Any f) ((c : PolyCase) × Any c) Shape Case Field PolyCase
+    (λ e. e.0) (λ e. e.0) (λ e. e.0) (λ e. e.0) y))
+layer_known layer.Unit = known (roll-Shape layer.Unit) _ (layer_printed layer.Unit) tt
+layer_known layer.Bool = known (roll-Shape layer.Bool) _ (layer_printed layer.Bool) tt
+layer_known layer.Char = known (roll-Shape layer.Char) _ (layer_printed layer.Char) tt
+layer_known layer.Int = known (roll-Shape layer.Int) _ (layer_printed layer.Int) tt
+layer_known layer.Int32 = known (roll-Shape layer.Int32) _ (layer_printed layer.Int32) tt
+layer_known layer.Int64 = known (roll-Shape layer.Int64) _ (layer_printed layer.Int64) tt
+layer_known layer.Text = known (roll-Shape layer.Text) _ (layer_printed layer.Text) tt
+layer_known layer.Sexp = known (roll-Shape layer.Sexp) _ (layer_printed layer.Sexp) tt
+layer_known (layer.Opt e) = applied (roll-Shape (layer.Opt e.0)) e (codes "option") (layer_printed (layer.Opt e.0))
+layer_known (layer.List e) = applied (roll-Shape (layer.List e.0)) e (codes "list") (layer_printed (layer.List e.0))
+layer_known (layer.Tuple es) = subst Known (sym (shp.rolls-Tuple (map (λ e. e.0) es))) (tuple_known es)
+layer_known (layer.Fields es) = known (roll-Shape (layer.Fields (map (λ e. e.0) es))) _ (layer_printed (layer.Fields (map (λ e. e.0) es))) tt
+layer_known (layer.Sum es) = known (roll-Shape (layer.Sum (map (λ e. e.0) es))) _ (layer_printed (layer.Sum (map (λ e. e.0) es))) tt
+layer_known (layer.Poly es) = known (roll-Shape (layer.Poly (map (λ e. e.0) es))) _ (layer_printed (layer.Poly (map (λ e. e.0) es))) tt
+
+known_all : (s : Shape) → Known s
+known_all = by_layers Known Any Any Any layer_known (λ name args. tt) (λ name e. tt) (λ name e. tt)
+
+part_tight : (s : Shape) → IsTight (as_part (shape_printed s))
+part_tight s = (known_all s).part
+
+shape_tight : (s : Shape) (d : ℕ) → AreGood (nodes d (form_of s)) → IsTight (shape_printed s).1
+shape_tight s = (known_all s).whole
+
+pub tuple_only : (s : Shape) → ((ss : List Shape) → s ≡ shp.Tuple ss → ⊥) → (shape_printed s).0 ≡ false
+tuple_only s = (known_all s).other
+
+-- ---- a shape as a part
 
 pub text_is : (s : Shape) → shape_text s ≡ piece_bytes (shape_printed s).1
 unfolding shape_text shape_text_of shape_pieces
@@ -82,33 +126,6 @@ part_other s is = go (shape_printed s) is ∙ sym (text_is s)
     go : (p : Printed) → p.0 ≡ false → piece_bytes (as_part p) ≡ piece_bytes p.1
     go (true, ps) e = absurd cc
     go (false, ps) e = refl
-
--- any shape but a tuple is printed as no tuple
-abbrev IsNoTuple : Shape → Type 0
-IsNoTuple s = ((ss : List Shape) → s ≡ shp.Tuple ss → ⊥) → (shape_printed s).0 ≡ false
-
-abbrev NoTuple : Type 0
-NoTuple = (s : Shape) × IsNoTuple s
-
-pub tuple_only : (s : Shape) → IsNoTuple s
-tuple_only = by_layers IsNoTuple Any Any Any of (λ name args. tt) (λ name e. tt) (λ name e. tt)
-  where
-    of : (y : Shape-F NoTuple ((c : Case) × Any c) ((f : Field) × Any f) ((c : PolyCase) × Any c))
-        → IsNoTuple (roll-Shape (map-Shape NoTuple ((c : Case) × Any c) ((f : Field) × Any f) ((c : PolyCase) × Any c) Shape Case Field PolyCase (λ e. e.0) (λ e. e.0) (λ e. e.0) (λ e. e.0) y))
-    of layer.Unit other = ap (λ p. p.0) (layer_printed layer.Unit)
-    of layer.Bool other = ap (λ p. p.0) (layer_printed layer.Bool)
-    of layer.Char other = ap (λ p. p.0) (layer_printed layer.Char)
-    of layer.Int other = ap (λ p. p.0) (layer_printed layer.Int)
-    of layer.Int32 other = ap (λ p. p.0) (layer_printed layer.Int32)
-    of layer.Int64 other = ap (λ p. p.0) (layer_printed layer.Int64)
-    of layer.Text other = ap (λ p. p.0) (layer_printed layer.Text)
-    of layer.Sexp other = ap (λ p. p.0) (layer_printed layer.Sexp)
-    of (layer.Opt e) other = ap (λ p. p.0) (layer_printed (layer.Opt e.0))
-    of (layer.List e) other = ap (λ p. p.0) (layer_printed (layer.List e.0))
-    of (layer.Tuple es) other = absurd (other (map (λ e. e.0) es) (shp.rolls-Tuple (map (λ e. e.0) es)))
-    of (layer.Fields es) other = ap (λ p. p.0) (layer_printed (layer.Fields (map (λ e. e.0) es)))
-    of (layer.Sum es) other = ap (λ p. p.0) (layer_printed (layer.Sum (map (λ e. e.0) es)))
-    of (layer.Poly es) other = ap (λ p. p.0) (layer_printed (layer.Poly (map (λ e. e.0) es)))
 
 -- ---- words, options and lists
 
@@ -159,46 +176,6 @@ factors_bytes [] = refl
 factors_bytes (s ∷ ss) =
     bytes_join (as_part (shape_printed s)) (more_factors (map shape_printed ss))
     ∙ (ap (λ t. part_text s ++ t) (more_factors_bytes ss) ∙ joined_cons (codes " * ") (part_text s) (map part_text ss) [])
-
--- ---- no blank stands before a good shape
-
-abbrev IsShapeTight : Shape → Type 0
-IsShapeTight s = (d : ℕ) → AreGood (nodes d (form_of s)) → IsTight (shape_printed s).1
-
-abbrev TightShape : Type 0
-TightShape = (s : Shape) × IsShapeTight s
-
-tuple_tight : (ss : List Shape) → IsShapeTight (shp.Tuple ss)
-tuple_tight ss d good =
-    let here : AreGood (nodes d (tuple (parts (map form_of ss)))) = subst (λ f. AreGood (nodes d f)) (form_of-Tuple ss) good in
-    let two : 2 ≤ length (map unnamed (map form_of ss)) = (tuple_count d (map unnamed (map form_of ss)) (good_node d (tuple (parts (map form_of ss))) here)).0 in
-    subst (λ p. IsTight p.1) (sym (printed_Tuple ss)) (some ss (omega (arith, two, length-map (map form_of ss) unnamed, length-map ss form_of)))
-  where
-    some : (us : List Shape) → 2 ≤ length us → IsTight (factors (map shape_printed us))
-    some [] le = absurd (omega arith)
-    some (u ∷ us) le = tight_join (as_part (shape_printed u)) (more_factors (map shape_printed us)) (part_tight u)
-
-pub shape_tight : (s : Shape) → IsShapeTight s
-shape_tight = by_layers IsShapeTight Any Any Any of (λ name args. tt) (λ name e. tt) (λ name e. tt)
-  where
-    of : (y : Shape-F TightShape ((c : Case) × Any c) ((f : Field) × Any f) ((c : PolyCase) × Any c))
-        → IsShapeTight (roll-Shape (map-Shape TightShape ((c : Case) × Any c) ((f : Field) × Any f) ((c : PolyCase) × Any c) Shape Case Field PolyCase (λ e. e.0) (λ e. e.0) (λ e. e.0) (λ e. e.0) y))
-    of layer.Unit d good = subst (λ p. IsTight p.1) (sym (layer_printed layer.Unit)) tt
-    of layer.Bool d good = subst (λ p. IsTight p.1) (sym (layer_printed layer.Bool)) tt
-    of layer.Char d good = subst (λ p. IsTight p.1) (sym (layer_printed layer.Char)) tt
-    of layer.Int d good = subst (λ p. IsTight p.1) (sym (layer_printed layer.Int)) tt
-    of layer.Int32 d good = subst (λ p. IsTight p.1) (sym (layer_printed layer.Int32)) tt
-    of layer.Int64 d good = subst (λ p. IsTight p.1) (sym (layer_printed layer.Int64)) tt
-    of layer.Text d good = subst (λ p. IsTight p.1) (sym (layer_printed layer.Text)) tt
-    of layer.Sexp d good = subst (λ p. IsTight p.1) (sym (layer_printed layer.Sexp)) tt
-    of (layer.Opt e) d good =
-        subst (λ p. IsTight p.1) (sym (layer_printed (layer.Opt e.0))) (tight_join (as_part (shape_printed e.0)) (spaced (Word (codes "option")) ∷ []) (part_tight e.0))
-    of (layer.List e) d good =
-        subst (λ p. IsTight p.1) (sym (layer_printed (layer.List e.0))) (tight_join (as_part (shape_printed e.0)) (spaced (Word (codes "list")) ∷ []) (part_tight e.0))
-    of (layer.Tuple es) d good = subst IsShapeTight (sym (shp.rolls-Tuple (map (λ e. e.0) es))) (tuple_tight (map (λ e. e.0) es)) d good
-    of (layer.Fields es) d good = subst (λ p. IsTight p.1) (sym (layer_printed (layer.Fields (map (λ e. e.0) es)))) tt
-    of (layer.Sum es) d good = subst (λ p. IsTight p.1) (sym (layer_printed (layer.Sum (map (λ e. e.0) es)))) tt
-    of (layer.Poly es) d good = subst (λ p. IsTight p.1) (sym (layer_printed (layer.Poly (map (λ e. e.0) es)))) tt
 
 -- ---- members
 

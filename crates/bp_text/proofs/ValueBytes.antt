@@ -1,5 +1,5 @@
 -- The printed text of a value whose layer is known, part by part.
-use Rattle.std.proofs.Common.{◌≡◌, refl, sym, ap, ◌∙◌, subst, true, false, inl, inr, ℕ, ℤ, zero, suc, ◌≤◌, List, [], ◌∷◌, ◌++◌, length, map, slice_get, ◌==◌, Option, Some, None, codes, append-nil, arith}
+use Rattle.std.proofs.Common.{◌≡◌, refl, sym, ap, ◌∙◌, subst, true, false, inl, inr, ℕ, zero, suc, ◌≤◌, List, [], ◌∷◌, ◌++◌, length, map, slice_get, ◌==◌, Option, Some, None, codes, append-nil, arith}
 use Rattle.std.specs.List.{All}
 use Rattle.std.proofs.lemmas.List.Elements.{All-nil, All-cons, All-head, All-tail}
 use Rattle.bp_value.specs.declared.value.Value.{Value, out-Value}
@@ -15,18 +15,14 @@ use Rattle.std.specs.Option.{option_map}
 use Rattle.bp_value.specs.Fits.{Fits, FitParts}
 use Rattle.bp_value.proofs.Layers.{out_absent, out_bool, out_char, out_num, out_text, out_sexp, out_present, out_items, out_parts, out_case}
 use Rattle.bp_text_grammar.specs.Texts.{round_open, round_close, semicolon, square_open, square_close, curly_open, curly_close, backtick}
-use Rattle.bp_text_grammar.specs.Printed.{quoted_text, quoted_char, decimal_text}
+use Rattle.bp_text_grammar.specs.Printed.{quoted_text, quoted_char}
 use Rattle.bp_text_grammar.specs.PrintedPieces.{Piece}
 use Rattle.bp_text_grammar.specs.PrintedValues.{more_items, all_items, sexp_pieces, bool_pieces, number_pieces, name_at, labelled, value_pieces, part_pieces, more_part_pieces, field_pieces, more_field_pieces, argument_pieces_at, argument_pieces, value_text_of}
 use Rattle.bp_text_grammar.specs.PrintedTexts.{value_text}
 use Rattle.bp_text_grammar.proofs.PrintedValues.{sexp_pieces-Atom, sexp_pieces-List}
 use Rattle.bp_text.specs.Printing.{piece_bytes}
-use Rattle.bp_text.proofs.Appending.{joined}
+use Rattle.bp_text.proofs.Appending.{joined, some_is}
 use Rattle.bp_text.proofs.PieceBytes.{IsTight, bytes_join, bytes_blank, bytes_after_blank, rest, rest_cons, joined_cons, list_bytes}
-
-pub text_is : (f : Form) (v : Value) → value_text f v ≡ piece_bytes (value_pieces f v)
-unfolding value_text value_text_of
-text_is f v = refl
 
 -- ---- S-expressions
 
@@ -90,9 +86,6 @@ items_tight m f (v ∷ vs) all =
     All-cons (λ v. IsTight (value_pieces f v)) v vs (value_tight m f v (All-head (Fits m f) v vs all)) (items_tight m f vs (All-tail (Fits m f) v vs all))
 
 -- ---- by the layer
-
-pub number_text : (v : Value) (n : ℤ) → v ≡ val.Num n → piece_bytes (number_pieces (out-Value v)) ≡ decimal_text n
-number_text v n is = rw (is, out_num n) (append-nil (decimal_text n))
 
 module _ (v : Value) where
   pub text_unit : value_text unit v ≡ codes "()"
@@ -206,9 +199,6 @@ field_bytes m (part name f fs) (v ∷ vs) fits =
     ∙ joined_cons (codes "; ") (named name (value_text f v)) (texts_by named fs vs) (curly_close ∷ [])))
 
 -- ---- the text at a place
-
-some_is : {A : Type 0} (x y : A) → Some x ≡ Some y → x ≡ y
-some_is x y e = cc
 
 pub text_at : (made : List ℕ → List ℕ → List ℕ) (ps : List (List ℕ × Form)) (vs : List Value) (i : ℕ) (p : List ℕ × Form) (v : Value) → slice_get ps i ≡ Some p
     → slice_get vs i ≡ Some v → slice_get (texts_by made (named_parts ps) vs) i ≡ Some (made p.0 (value_text p.1 v))

@@ -1,7 +1,5 @@
 use crate::{print_shape, print_value, put_decimal, put_quoted, put_value};
-use bp_value::{
-    Blob, Boxed, Case, Field, Listed, OutOfMemory, PolyCase, Sexp, Shape, Value, fits,
-};
+use bp_value::{Blob, Boxed, Case, Field, Listed, OutOfMemory, PolyCase, Sexp, Shape, Value, fits};
 use std::alloc::Global;
 use std::test::Fail;
 
@@ -13,10 +11,7 @@ fn text(alloc: Global, bytes: &[u8]) -> Result<Value, OutOfMemory> {
     Ok(Value::Text(blob(alloc, bytes)?))
 }
 
-fn listed<T: Drop, const N: usize>(
-    alloc: Global,
-    items: [T; N],
-) -> Result<Listed<T>, OutOfMemory> {
+fn listed<T: Drop, const N: usize>(alloc: Global, items: [T; N]) -> Result<Listed<T>, OutOfMemory> {
     Ok(Listed::from_vec(Vec::from_array(alloc, items)?))
 }
 
@@ -134,21 +129,18 @@ fn shape_prints(
 }
 
 /// Whether the shape is good and the value fits it, and prints so, also after other bytes.
-fn prints(
-    alloc: Global,
-    shape: &Shape,
-    value: &Value,
-    want: &str,
-) -> Result<bool, OutOfMemory> {
+fn prints(alloc: Global, shape: &Shape, value: &Value, want: &str) -> Result<bool, OutOfMemory> {
     if shape.check().is_err() || !fits(shape, value, 1 << 20) {
         return Ok(false);
     }
     let mut out = vec![in alloc; b'#']?;
     put_value(shape, value, &mut out)?;
     let text = print_value(alloc, shape, value)?;
-    Ok(text.as_slice() == want.as_bytes()
-        && out.first() == Some(&b'#')
-        && out.get(1..) == Some(want.as_bytes()))
+    Ok(
+        text.as_slice() == want.as_bytes()
+            && out.first() == Some(&b'#')
+            && out.get(1..) == Some(want.as_bytes()),
+    )
 }
 
 /// The same of a shape and a value that the caller made, so that none is left to be dropped there.
@@ -229,7 +221,14 @@ fn cases(rt: HostRuntime) -> Result<(), Fail> {
     assert!(rt; value_prints(alloc, sum(alloc), b, "B(3, false)")?);
     assert!(rt; value_prints(alloc, poly(alloc), case_at(alloc, 1, []), "`Eof")?);
     let both = parts(alloc, [Value::Num(-5), Value::Bool(true)])?;
-    assert!(rt; value_prints(alloc, poly(alloc), case_at(alloc, 0, [both]), "`Ok((-5, true))")?);
+    assert!(rt;
+        value_prints(
+            alloc,
+            poly(alloc),
+            case_at(alloc, 0, [both]),
+            "`Ok((-5, true))"
+        )?
+    );
     Ok(())
 }
 
