@@ -2,7 +2,6 @@
 // the text may have been appended.
 
 ghost use Rattle.std.specs.Prelude.{◌≡◌, ◌<◌, ◌∷◌, ◌++◌, [], true, OnOk, OnErr};
-ghost use Rattle.std.specs.List.{flat_map};
 ghost use Rattle.std.specs.Fmt.{decimal, digit_glyph};
 ghost use Rattle.bp_text_grammar.specs.Printed.{decimal_text, escaped, quoted_char, quoted_text};
 ghost use Rattle.bp_text.specs.Printing.{lead, Appends};
