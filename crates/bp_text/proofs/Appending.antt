@@ -90,7 +90,8 @@ rest_done separator texts (suc i) after le = rw (drop_all (suc i) texts le) refl
 -- ---- texts without a separator
 
 module _ {A : Type 0} (w : A → List ℕ) (xs : List A) (i : ℕ) where
-  pub each_next : (d x : A) (after : List ℕ) → i < length xs → x ≡ get_or xs i d → flat_map w (drop i xs) ++ after ≡ w x ++ (flat_map w (drop (i + 1) xs) ++ after)
+  pub each_next : (d x : A) (after : List ℕ) → i < length xs → x ≡ get_or xs i d
+      → flat_map w (drop i xs) ++ after ≡ w x ++ (flat_map w (drop (i + 1) xs) ++ after)
   each_next d x after lt is = rw (drop-cons xs i d, add-one, ← is) (append_assoc (w x) (flat_map w (drop (suc i) xs)) after)
 
   pub each_done : (after : List ℕ) → length xs ≤ i → flat_map w (drop i xs) ++ after ≡ after

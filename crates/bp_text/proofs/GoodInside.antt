@@ -12,7 +12,8 @@ use Rattle.bp_text.proofs.Appending.{mapped_at}
 pub item_good : (ss : List Shape) (i : ℕ) (s : Shape) → i < length ss → s ≡ get_or ss i s → AreGoodInside (parts (map form_of ss)) → IsGoodInside (form_of s)
 item_good ss i s lt is good = (
   good.0,
-  good_part_at good.0 i (map unnamed (map form_of ss)) ([], form_of s) (slice_get-map unnamed (map form_of ss) i ∙ ap (option_map unnamed) (mapped_at form_of ss i s lt is)) good.1,
+  good_part_at good.0 i (map unnamed (map form_of ss)) ([], form_of s)
+      (slice_get-map unnamed (map form_of ss) i ∙ ap (option_map unnamed) (mapped_at form_of ss i s lt is)) good.1,
 )
 
 pub argument_good : (a : Option Shape) (s : Shape) → a ≡ Some s → AreGoodInside (argument (option_map form_of a)) → IsGoodInside (form_of s)

@@ -21,7 +21,8 @@ made_any : {A : Type 0} (made : A → Value) (P : A → Type 0) (v : Value) → 
 made_any made P v m = (m.0, m.1, tt)
 
 -- what is made of something that has a property, where it is made of this
-made_of : {A : Type 0} (made : A → Value) (alike : (x y : A) → made x ≡ made y → x ≡ y) (P : A → Type 0) (v : Value) (a : A) → v ≡ made a → IsMade made P v → P a
+made_of : {A : Type 0} (made : A → Value) (alike : (x y : A) → made x ≡ made y → x ≡ y) (P : A → Type 0) (v : Value) (a : A) → v ≡ made a
+    → IsMade made P v → P a
 made_of made alike P v a is m = subst P (alike m.0 a (sym m.1 ∙ is)) m.2
 
 module _ (v : Value) where
@@ -136,7 +137,8 @@ case_fits m [] place vs fits = absurd fits
 case_fits m (d ∷ cs) zero vs fits = (omega arith, λ c e. subst (λ x. FitParts m x.1 vs) (some_is d c e) fits)
 case_fits m (d ∷ cs) (suc place) vs fits = let r = case_fits m cs place vs fits in (omega (arith, r.0), r.1)
 
-case_inside : (P : ℕ → List Value → Type 0) (v : Value) (place : ℕ) (vs : List Value) → v ≡ val.Case place vs → (p : ℕ) × IsMade (val.Case p) (P p) v → P place vs
+case_inside : (P : ℕ → List Value → Type 0) (v : Value) (place : ℕ) (vs : List Value) → v ≡ val.Case place vs → (p : ℕ) × IsMade (val.Case p) (P p) v
+    → P place vs
 case_inside P v place vs is m =
     let e : val.Case m.0 m.1.0 ≡ val.Case place vs = sym m.1.1 ∙ is in
     subst (λ q. P q vs) (case_place m.0 place m.1.0 vs e) (subst (P m.0) (case_is m.0 place m.1.0 vs e) m.1.2)

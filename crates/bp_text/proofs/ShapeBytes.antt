@@ -67,8 +67,9 @@ tuple_known es = record {
     two : (d : ℕ) → AreGood (nodes d (form_of (shp.Tuple ss))) → 2 ≤ length es
     two d good =
         let here : AreGood (nodes d (tuple (parts (map form_of ss)))) = subst (λ f. AreGood (nodes d f)) (form_of-Tuple ss) good in
-        let parts_two : 2 ≤ length (map unnamed (map form_of ss)) = (tuple_count d (map unnamed (map form_of ss)) (good_node d (tuple (parts (map form_of ss))) here)).0 in
-        omega (arith, parts_two, length-map (map form_of ss) unnamed, length-map ss form_of, length-map es (λ e. e.0))
+        let node = good_node d (tuple (parts (map form_of ss))) here in
+        let enough : 2 ≤ length (map unnamed (map form_of ss)) = (tuple_count d (map unnamed (map form_of ss)) node).0 in
+        omega (arith, enough, length-map (map form_of ss) unnamed, length-map ss form_of, length-map es (λ e. e.0))
 
 abbrev Any : {A : Type 0} → A → Type 0
 Any a = Unit {0}
@@ -210,7 +211,8 @@ text_Fields d fs good =
 arguments_bytes : (ss : List Shape) → piece_bytes (of_arguments (map shape_printed ss)) ≡ arguments_text ss
 arguments_bytes [] = refl
 arguments_bytes (s ∷ ss) =
-    ap (λ t. codes " of" ++ t) (bytes_blank (factors (map shape_printed (s ∷ ss))) (tight_join (as_part (shape_printed s)) (more_factors (map shape_printed ss)) (part_tight s)))
+    ap (λ t. codes " of" ++ t)
+    (bytes_blank (factors (map shape_printed (s ∷ ss))) (tight_join (as_part (shape_printed s)) (more_factors (map shape_printed ss)) (part_tight s)))
 
 case_bytes : (c : Case) → piece_bytes (case_printed c) ≡ case_text c
 case_bytes c = ap piece_bytes (case_printed_is c) ∙ ap (λ s. c.name ++ s) (arguments_bytes c.args)
@@ -229,7 +231,8 @@ text_Sum cs =
     each c = subst IsTight (sym (case_printed_is c)) tt
 
 -- cases of polymorphic variants
-argument_bytes : (d : ℕ) (a : Option Shape) → AreGood (part_nodes d (argument (option_map form_of a))) → piece_bytes (of_argument (option_map shape_printed a)) ≡ argument_text a
+argument_bytes : (d : ℕ) (a : Option Shape) → AreGood (part_nodes d (argument (option_map form_of a)))
+    → piece_bytes (of_argument (option_map shape_printed a)) ≡ argument_text a
 argument_bytes d None good = refl
 argument_bytes d (Some s) good =
     ap (λ t. codes " of" ++ t) (bytes_blank (shape_printed s).1 (shape_tight s d (good_part d [] (form_of s) (argument None) good).0))

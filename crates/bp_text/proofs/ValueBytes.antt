@@ -166,7 +166,8 @@ more_part_bytes m (part name f fs) (v ∷ vs) fits =
     ∙ ap (λ s. 32 ∷ (value_text f v ++ s)) (more_part_bytes m fs vs fits.1))
     ∙ rest_cons (codes ", ") (value_text f v) (texts_by alone fs vs) (round_close ∷ [])
 
-pub part_bytes : (m : ℕ) (fs : Parts) (vs : List Value) → FitParts m fs vs → piece_bytes (part_pieces fs vs) ≡ joined (codes ", ") (texts_by alone fs vs) ++ round_close ∷ []
+pub part_bytes : (m : ℕ) (fs : Parts) (vs : List Value) → FitParts m fs vs
+    → piece_bytes (part_pieces fs vs) ≡ joined (codes ", ") (texts_by alone fs vs) ++ round_close ∷ []
 unfolding FitParts part_pieces value_text value_text_of
 part_bytes m end vs fits = refl
 part_bytes m (part name f fs) [] fits = absurd fits
@@ -188,7 +189,8 @@ more_field_bytes m (part name f fs) (v ∷ vs) fits =
     ∙ ap (λ s. 32 ∷ (named name (value_text f v) ++ s)) (more_field_bytes m fs vs fits.1)))
     ∙ rest_cons (codes "; ") (named name (value_text f v)) (texts_by named fs vs) (curly_close ∷ [])
 
-pub field_bytes : (m : ℕ) (fs : Parts) (vs : List Value) → FitParts m fs vs → piece_bytes (field_pieces fs vs) ≡ joined (codes "; ") (texts_by named fs vs) ++ curly_close ∷ []
+pub field_bytes : (m : ℕ) (fs : Parts) (vs : List Value) → FitParts m fs vs
+    → piece_bytes (field_pieces fs vs) ≡ joined (codes "; ") (texts_by named fs vs) ++ curly_close ∷ []
 unfolding FitParts field_pieces value_text value_text_of
 field_bytes m end vs fits = refl
 field_bytes m (part name f fs) [] fits = absurd fits
@@ -226,7 +228,8 @@ arguments_are [] place c vs e = absurd cc
 arguments_are (d ∷ cs) zero c vs e = ap (λ x. argument_pieces x.1 vs) (some_is d c e)
 arguments_are (d ∷ cs) (suc place) c vs e = arguments_are cs place c vs e
 
-module _ (cs : List (List ℕ × Parts)) (v : Value) (place : ℕ) (vs : List Value) (is : v ≡ val.Case place vs) (c : List ℕ × Parts) (at : slice_get cs place ≡ Some c) where
+module _ (cs : List (List ℕ × Parts)) (v : Value) (place : ℕ) (vs : List Value) (is : v ≡ val.Case place vs) (c : List ℕ × Parts)
+    (at : slice_get cs place ≡ Some c) where
   pub text_sum : value_text (sum (cases cs)) v ≡ c.0 ++ piece_bytes (argument_pieces c.1 vs)
   unfolding value_text value_text_of value_pieces
   text_sum = rw (is, out_case place vs, name_is cs place c at, arguments_are cs place c vs at) refl

@@ -125,7 +125,8 @@ append_factors-returns t c =
 
 pub append_fields-loop-place-init : goal.append_fields-loop-place-init
 append_fields-loop-place-init t c =
-    leads_start (curly_open ∷ []) _ _ _ _ (text_Fields (c.requires.0 + 1) c.args.fields.now (good_fields c.requires.0 _ c.requires.1)) c.in_ok-append_byte.ensures
+    leads_start (curly_open ∷ []) _ _ _ _
+    (text_Fields (c.requires.0 + 1) c.args.fields.now (good_fields c.requires.0 _ c.requires.1)) c.in_ok-append_byte.ensures
 
 pub append_fields-append_field-requires : goal.append_fields-append_field-requires
 append_fields-append_field-requires t c = (
@@ -150,7 +151,8 @@ pub append_fields-returns : goal.append_fields-returns
 append_fields-returns t c =
     let fields = c.args.fields.now in
     leads_last _ _ _ _ c.loop-place.invariant (curly_close ∷ []) _ _
-    (rest_done (codes "; ") (map field_text fields) c.loop-place.place (curly_close ∷ []) (rw (length-map fields field_text) c.loop-place-test.false)) c.append_byte-2.ensures
+    (rest_done (codes "; ") (map field_text fields) c.loop-place.place (curly_close ∷ []) (rw (length-map fields field_text) c.loop-place-test.false))
+    c.append_byte-2.ensures
 
 -- ---- variants
 
@@ -180,7 +182,8 @@ pub append_sum-returns : goal.append_sum-returns
 append_sum-returns t c =
     let sum = c.args.sum.now in
     leads_last _ _ _ _ c.loop-place.invariant (square_close ∷ []) _ _
-    (rest_done (codes " | ") (map case_text sum) c.loop-place.place (square_close ∷ []) (rw (length-map sum case_text) c.loop-place-test.false)) c.append_byte-2.ensures
+    (rest_done (codes " | ") (map case_text sum) c.loop-place.place (square_close ∷ []) (rw (length-map sum case_text) c.loop-place-test.false))
+    c.append_byte-2.ensures
 
 pub append_poly-loop-place-init : goal.append_poly-loop-place-init
 append_poly-loop-place-init t c =
@@ -209,7 +212,8 @@ pub append_poly-returns : goal.append_poly-returns
 append_poly-returns t c =
     let poly = c.args.poly.now in
     leads_last _ _ _ _ c.loop-place.invariant (square_close ∷ []) _ _
-    (rest_done (codes " | ") (map poly_text poly) c.loop-place.place (square_close ∷ []) (rw (length-map poly poly_text) c.loop-place-test.false)) c.append_byte-2.ensures
+    (rest_done (codes " | ") (map poly_text poly) c.loop-place.place (square_close ∷ []) (rw (length-map poly poly_text) c.loop-place-test.false))
+    c.append_byte-2.ensures
 
 pub append_poly_case-append_argument-requires : goal.append_poly_case-append_argument-requires
 append_poly_case-append_argument-requires t c =

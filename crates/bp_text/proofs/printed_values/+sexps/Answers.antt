@@ -40,4 +40,5 @@ pub append_sexps-returns : goal.append_sexps-returns
 append_sexps-returns t c =
     let texts = map sexp_text c.args.sexps.now in
     leads_last _ _ _ _ c.loop-place.invariant (round_close ∷ []) _ _
-    (rest_done blank_text texts c.loop-place.place (round_close ∷ []) (rw (length-map c.args.sexps.now sexp_text) c.loop-place-test.false)) c.append_byte-2.ensures
+    (rest_done blank_text texts c.loop-place.place (round_close ∷ []) (rw (length-map c.args.sexps.now sexp_text) c.loop-place-test.false))
+    c.append_byte-2.ensures

@@ -185,7 +185,8 @@ append_parts-loop-place-preserved t c =
     let i = c.loop-place.place in
     let text = value_text (form_of c.index-shapes-place.result) c.index-values-place.result in
     let lt : i < length (map form_of c.args.shapes.now) = rw (length-map c.args.shapes.now form_of) c.loop-place-test.true in
-    leads_next _ _ _ _ c.loop-place.invariant (lead (codes ", ") i ++ text) (rest_of (codes ", ") (texts_by alone (named_parts fs) values) (i + 1) ++ round_close ∷ []) _
+    leads_next _ _ _ _ c.loop-place.invariant (lead (codes ", ") i ++ text)
+    (rest_of (codes ", ") (texts_by alone (named_parts fs) values) (i + 1) ++ round_close ∷ []) _
     (rest_next (codes ", ") (texts_by alone (named_parts fs) values) i text (round_close ∷ [])
     (text_at alone fs values i ([], form_of c.index-shapes-place.result) _
     (slice_get-map unnamed (map form_of c.args.shapes.now) i
@@ -224,7 +225,8 @@ append_fields-loop-place-preserved t c =
     let i = c.loop-place.place in
     let field = c.index-fields-place.result in
     let text = named field.name (value_text (form_of field.shape) c.index-values-place.result) in
-    leads_next _ _ _ _ c.loop-place.invariant (lead (codes "; ") i ++ text) (rest_of (codes "; ") (texts_by named (named_parts fs) values) (i + 1) ++ curly_close ∷ []) _
+    leads_next _ _ _ _ c.loop-place.invariant (lead (codes "; ") i ++ text)
+    (rest_of (codes "; ") (texts_by named (named_parts fs) values) (i + 1) ++ curly_close ∷ []) _
     (rest_next (codes "; ") (texts_by named (named_parts fs) values) i text (curly_close ∷ [])
     (text_at named fs values i (field_form field) _ (mapped_at field_form c.args.fields.now i _ c.loop-place-test.true c.index-fields-place.is)
     (value_at field_form c.args.fields.now values c.requires i _ c.loop-place-test.true c.index-values-place.is)))
