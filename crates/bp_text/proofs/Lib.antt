@@ -3,3 +3,9 @@ pub mod QuotedSteps
 pub mod ScanSteps
 pub mod NumberSteps
 pub mod TokenSteps
+pub mod Appending
+pub mod PieceBytes
+pub mod ValueBytes
+pub mod ShapeBytes
+pub mod GoodInside
+pub mod OfForm

@@ -4,9 +4,17 @@
 //! of them: where no token stands, the last one says so, and no reader of tokens goes on with it.
 #![tactic(auto)]
 
+mod contents;
+mod printed_shapes;
+mod printed_values;
+mod printing;
 mod quoted;
 mod scanning;
 mod stop;
 #[cfg(test)]
 mod tests;
 mod token;
+
+pub use printed_shapes::print_shape;
+pub use printed_values::{print_value, put_value};
+pub use printing::{put_decimal, put_quoted};
