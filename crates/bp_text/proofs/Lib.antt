@@ -11,3 +11,9 @@ pub mod Parts
 pub mod Within
 pub mod CaseNames
 pub mod ValueSteps
+pub mod Appending
+pub mod PieceBytes
+pub mod ValueBytes
+pub mod ShapeBytes
+pub mod GoodInside
+pub mod OfForm

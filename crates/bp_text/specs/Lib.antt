@@ -1,3 +1,4 @@
 pub mod Given
 pub mod Unread
 pub mod Leaves
+pub mod Printing

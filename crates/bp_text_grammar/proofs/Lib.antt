@@ -26,3 +26,4 @@ pub mod RoundTrips
 pub mod LaidShapes
 pub mod Examples
 pub mod PrintedTexts
+pub mod PrintedLaws
