@@ -1,5 +1,6 @@
-// Heads of values from the bytes at a cursor, which moves behind what was read (bin_prot, "Binary
-// protocol specification"). A head that is cut leaves the cursor where it was.
+//! Heads of values from the bytes at a cursor, which moves behind what was read (bin_prot, "Binary
+//! protocol specification"): for who reads values of a fixed shape without making them first. A
+//! head that is cut leaves the cursor where it was.
 
 ghost use Rattle.std.specs.Prelude.{◌≡◌, ℕ, ◌^◌, ◌<◌, ◌≤◌, ◌↔◌, take, drop, length, FitsSigned, IfOk, IsTrue};
 ghost use Rattle.std.specs.Int.{w64};
@@ -214,8 +215,9 @@ fn begins_tag(front: &[u8], tags: &[u32]) -> bool
     tags.iter().any(|tag| tag.to_le_bytes().starts_with(front))
 }
 
-// What the type of bytes says of them, for the proofs of a call behind a reference to a slice.
-fn known(bytes: &[u8])
+/// What the type of bytes says of them, for the proofs of a call behind a reference to a slice. It
+/// does nothing.
+pub fn known(bytes: &[u8])
     ensures { Each IsByte bytes.now }
 {}
 

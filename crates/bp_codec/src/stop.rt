@@ -1,4 +1,4 @@
-// Why a reading stops before its value is whole.
+//! Why a reading stops before its value is whole.
 ghost use Rattle.std.specs.Prelude.{◌≡◌};
 
 use bp_num::Why;
@@ -12,6 +12,7 @@ pub enum Stop {
     More,
     /// The byte at the cursor is at fault.
     Bad(Why),
+    /// Memory ran out. No contract says when.
     OutOfMemory,
 }
 

@@ -18,3 +18,13 @@ pub mod WholeSteps
 pub mod FrontBytes
 pub mod FrontSteps
 pub mod FrontOnce
+pub mod Parts
+pub mod Within
+pub mod CaseNames
+pub mod ValueSteps
+pub mod Appending
+pub mod PieceBytes
+pub mod ValueBytes
+pub mod ShapeBytes
+pub mod GoodInside
+pub mod OfForm

@@ -8,7 +8,7 @@ use Rattle.bp_text_grammar.specs.Tokens.{Token, Number, Text, Char}
 use Rattle.bp_text_grammar.specs.Texts.{BadText, is_word, word_at, word_for, when}
 use Rattle.bp_text_grammar.specs.ValueTexts.{bool_of, char_value_of, number_of, in_range, text_of, atom_of}
 use Rattle.bp_text.specs.Unread.{is_first, taken_at}
-use Rattle.bp_text.specs.Leaves.{of_first, bytes_of, byte_of, number_in}
+use Rattle.bp_text.specs.Leaves.{of_first, quoted_bytes_of, byte_of, number_in}
 
 -- a value for each token, or for the first one
 pub one_first : {A : Type 0} (a : Option A) (h : Token → Option A) (ts : List Token) → a ≡ of_first h ts → one h BadText ts ≡ one (λ t. a) BadText ts
@@ -39,11 +39,11 @@ number_made : (bits : ℕ) (t : Token) → number_of bits t ≡ option_map val.N
 number_made bits (Number n) = when_made (in_range bits n) n
 number_made bits _ = refl
 
-text_made : (t : Token) → text_of t ≡ option_map val.Text (bytes_of t)
+text_made : (t : Token) → text_of t ≡ option_map val.Text (quoted_bytes_of t)
 text_made (Text w) = refl
 text_made _ = refl
 
-atom_made : (t : Token) → atom_of t ≡ option_map sx.Atom (bytes_of t)
+atom_made : (t : Token) → atom_of t ≡ option_map sx.Atom (quoted_bytes_of t)
 atom_made (Text w) = refl
 atom_made _ = refl
 
@@ -55,11 +55,11 @@ pub number_reads : (bits : ℕ) (number : Option ℤ) (ts : List Token) → numb
 number_reads bits number ts e =
     one_made val.Num (number_in bits) (number_of bits) (number_made bits) ts ∙ ap (mapped val.Num) (one_first number (number_in bits) ts e)
 
-pub text_reads : (ts : List Token) → one text_of BadText ts ≡ mapped val.Text (one bytes_of BadText ts)
-text_reads ts = one_made val.Text bytes_of text_of text_made ts
+pub text_reads : (ts : List Token) → one text_of BadText ts ≡ mapped val.Text (one quoted_bytes_of BadText ts)
+text_reads ts = one_made val.Text quoted_bytes_of text_of text_made ts
 
-pub atom_reads : (ts : List Token) → one atom_of BadText ts ≡ mapped sx.Atom (one bytes_of BadText ts)
-atom_reads ts = one_made sx.Atom bytes_of atom_of atom_made ts
+pub atom_reads : (ts : List Token) → one atom_of BadText ts ≡ mapped sx.Atom (one quoted_bytes_of BadText ts)
+atom_reads ts = one_made sx.Atom quoted_bytes_of atom_of atom_made ts
 
 -- ---- a word
 

@@ -14,8 +14,8 @@ use Rattle.bp_text_grammar.specs.Texts.{Why, BadText, semicolon, square_close, r
 use Rattle.bp_text_grammar.specs.ValueTexts.{inside_at, sexp_at}
 use Rattle.bp_text_grammar.specs.WholeTexts.{seen}
 use Rattle.bp_text.specs.declared.halt.Halt.{Halt}
-use Rattle.bp_text.specs.Unread.{Unread, ahead, Advances, Gives, is_first, taken_at}
-use Rattle.bp_text.specs.Leaves.{TokenReader, bytes_of, next_item_at}
+use Rattle.bp_text.specs.Unread.{Unread, ahead, Advances, HasOutcome, is_first, taken_at}
+use Rattle.bp_text.specs.Leaves.{TokenReader, quoted_bytes_of, next_item_at}
 use Rattle.bp_text.proofs.TokenSteps.{passes_lex}
 use Rattle.bp_text.proofs.Ahead.{goes_none, goes_join}
 use Rattle.bp_text.proofs.OneToken.{atom_reads}
@@ -72,8 +72,8 @@ one_fewer now new zero le less = absurd (omega arith)
 one_fewer now new (suc n) le less = omega arith
 
 -- a reading that goes on after one that stops
-stops_after : {A B : Type 0} (total : Outcome Token Why B) (o : Outcome Token Why A) (f : A → List Token → Outcome Token Why B) (old now new : Unread) (stop : Halt)
-    → total ≡ after o f → Advances old now → Gives o now new (Err stop) → Gives total old new (Err stop)
+pub stops_after : {A B : Type 0} (total : Outcome Token Why B) (o : Outcome Token Why A) (f : A → List Token → Outcome Token Why B) (old now new : Unread) (stop : Halt)
+    → total ≡ after o f → Advances old now → HasOutcome o now new (Err stop) → HasOutcome total old new (Err stop)
 stops_after total o f old now new stop e goes is =
     gives_as total (after o f) old new (Err stop) e (gives_past (after o f) old now new (Err stop) goes (gives_failed o f now new stop is))
 
@@ -86,13 +86,13 @@ module _ {A : Type 0} (all : ℕ → TokenReader (List A)) (turn : TokenReader (
   total_is : total ≡ after (turn (ahead now)) (turned all values (less_one turning.bound))
   total_is = sym turning.reads ∙ turns values turning.bound (ahead now) turning.enough
 
-  pub turn_end : (new : Unread) → Gives (turn (ahead now)) now new (Ok None) → Gives total old new (Ok values)
+  pub turn_end : (new : Unread) → HasOutcome (turn (ahead now)) now new (Ok None) → HasOutcome total old new (Ok values)
   turn_end new is = (goes_join old now new turning.goes is.0, total_is ∙ ap (λ o. after o (turned all values (less_one turning.bound))) is.1)
 
-  pub turn_fails : (new : Unread) (stop : Halt) → Gives (turn (ahead now)) now new (Err stop) → Gives total old new (Err stop)
+  pub turn_fails : (new : Unread) (stop : Halt) → HasOutcome (turn (ahead now)) now new (Err stop) → HasOutcome total old new (Err stop)
   turn_fails new stop is = stops_after total (turn (ahead now)) (turned all values (less_one turning.bound)) old now new stop total_is turning.goes is
 
-  pub turn_goes : (new : Unread) (v : A) → Gives (turn (ahead now)) now new (Ok (Some v)) → length (ahead new) < length (ahead now)
+  pub turn_goes : (new : Unread) (v : A) → HasOutcome (turn (ahead now)) now new (Ok (Some v)) → length (ahead new) < length (ahead now)
       → Turning all total old new (values ++ v ∷ [])
   turn_goes new v is fewer = record {
     goes = goes_join old now new turning.goes is.0;
@@ -169,7 +169,7 @@ inner_turn (suc d) values zero (c ∷ ts) some is le = absurd (omega arith)
 inner_turn (suc d) values (suc n) (c ∷ ts) some is le = until_go (sexp_at (suc d)) (λ vs us. whole vs us) values (is_mark round_close) BadText n c ts is
 
 module _ (d : ℕ) (total : Outcome Token Why (List Sexp)) (old now : Unread) (values : List Sexp) (turning : Turning (inner d) total old now values) where
-  pub inner_goes : (new : Unread) (x : Sexp) → 0 < d → false ≡ is_first (is_mark round_close) (ahead now) → Gives (sexp_at d (ahead now)) now new (Ok x)
+  pub inner_goes : (new : Unread) (x : Sexp) → 0 < d → false ≡ is_first (is_mark round_close) (ahead now) → HasOutcome (sexp_at d (ahead now)) now new (Ok x)
       → length (ahead new) < length (ahead now) → Turning (inner d) total old new (values ++ x ∷ [])
   inner_goes new x some other is fewer = record {
     goes = goes_join old now new turning.goes is.0;
@@ -180,8 +180,8 @@ module _ (d : ℕ) (total : Outcome Token Why (List Sexp)) (old now : Unread) (v
         ∙ (sym (inner_turn d values turning.bound (ahead now) some (sym other) turning.enough) ∙ turning.reads);
   }
 
-  pub inner_fails : (new : Unread) (stop : Halt) → 0 < d → false ≡ is_first (is_mark round_close) (ahead now) → Gives (sexp_at d (ahead now)) now new (Err stop)
-      → Gives total old new (Err stop)
+  pub inner_fails : (new : Unread) (stop : Halt) → 0 < d → false ≡ is_first (is_mark round_close) (ahead now) → HasOutcome (sexp_at d (ahead now)) now new (Err stop)
+      → HasOutcome total old new (Err stop)
   inner_fails new stop some other is =
       stops_after total (sexp_at d (ahead now)) (λ v us. onward (λ vs xs. whole vs xs) (values ++ v ∷ []) (inner d (less_one turning.bound) us)) old now new stop
       (sym turning.reads ∙ inner_turn d values turning.bound (ahead now) some (sym other) turning.enough) turning.goes is
@@ -189,12 +189,12 @@ module _ (d : ℕ) (total : Outcome Token Why (List Sexp)) (old now : Unread) (v
   closed_is : (0 < d → is_first (is_mark round_close) (ahead now) ≡ true) → total ≡ after (mark_at round_close (ahead now)) (λ u us. whole values us)
   closed_is ends = sym turning.reads ∙ inner_end d values turning.bound (ahead now) ends
 
-  pub inner_closes : (new : Unread) → (0 < d → is_first (is_mark round_close) (ahead now) ≡ true) → Gives (mark_at round_close (ahead now)) now new (Ok tt)
-      → Gives total old new (Ok values)
+  pub inner_closes : (new : Unread) → (0 < d → is_first (is_mark round_close) (ahead now) ≡ true) → HasOutcome (mark_at round_close (ahead now)) now new (Ok tt)
+      → HasOutcome total old new (Ok values)
   inner_closes new ends is = (goes_join old now new turning.goes is.0, closed_is ends ∙ after_whole (λ u us. whole values us) is.1)
 
   pub inner_stays : (new : Unread) (stop : Halt) → (0 < d → is_first (is_mark round_close) (ahead now) ≡ true)
-      → Gives (mark_at round_close (ahead now)) now new (Err stop) → Gives total old new (Err stop)
+      → HasOutcome (mark_at round_close (ahead now)) now new (Err stop) → HasOutcome total old new (Err stop)
   inner_stays new stop ends is =
       stops_after total (mark_at round_close (ahead now)) (λ u us. whole values us) old now new stop (closed_is ends) turning.goes is
 
@@ -221,7 +221,7 @@ sexp_list (suc d) (t ∷ ts) some is =
     ∙ (ap (λ (o : Outcome Token Why (Unit {0})). after o (λ u us. list_rest d us)) (mark_there round_open t ts (sym is))
     ∙ ap (λ e. list_rest e ts) (let e : d ≡ suc d - 1 = omega arith in e))
 
-pub sexp_atom : (d : ℕ) (ts : List Token) → 0 < d → false ≡ is_first (is_mark round_open) ts → sexp_at d ts ≡ mapped sx.Atom (one bytes_of BadText ts)
+pub sexp_atom : (d : ℕ) (ts : List Token) → 0 < d → false ≡ is_first (is_mark round_open) ts → sexp_at d ts ≡ mapped sx.Atom (one quoted_bytes_of BadText ts)
 unfolding sexp_at
 sexp_atom zero ts some is = absurd (omega arith)
 sexp_atom (suc d) [] some is = refl

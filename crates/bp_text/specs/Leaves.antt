@@ -4,7 +4,7 @@ use Rattle.std.specs.List.{All}
 use Rattle.bp_value.specs.declared.value.Value.{Value}
 use Rattle.bp_value.specs.Form.{Form, Parts}
 use Rattle.bp_value.specs.Faults.{nodes, part_nodes, IsFaultless}
-use Rattle.readers.specs.Reader.{Outcome, after, mapped, branch}
+use Rattle.readers.specs.Reader.{Outcome, whole, after, mapped, branch}
 use Rattle.bp_text_grammar.specs.Tokens.{Token, Number, Text, Char}
 use Rattle.bp_text_grammar.specs.Texts.{Why, semicolon, square_close, round_close, is_mark, mark_at, when}
 use Rattle.bp_text_grammar.specs.ValueTexts.{in_range, value_at, label_at}
@@ -14,9 +14,9 @@ abbrev pub of_first : {A : Type 0} → (Token → Option A) → List Token → O
 of_first h [] = None
 of_first h (t ∷ ts) = h t
 
-abbrev pub bytes_of : Token → Option (List ℕ)
-bytes_of (Text bytes) = Some bytes
-bytes_of _ = None
+abbrev pub quoted_bytes_of : Token → Option (List ℕ)
+quoted_bytes_of (Text bytes) = Some bytes
+quoted_bytes_of _ = None
 
 abbrev pub byte_of : Token → Option ℕ
 byte_of (Char byte) = Some byte
@@ -48,9 +48,12 @@ next_item_at r ts =
 abbrev pub next_sexp_at : {A : Type 0} → TokenReader A → TokenReader (Option A)
 next_sexp_at r ts = branch (is_mark round_close) (λ us. mapped (λ u. None) (mark_at round_close us)) (λ us. mapped (λ v. Some v) (r us)) ts
 
--- the reading of a part, or a field, which a mark stands before unless it is the first
-abbrev pub unless_first : {A : Type 0} → ℕ → Bool → TokenReader A → TokenReader A
-unless_first mark is_first r ts = if is_first then r ts else after (mark_at mark ts) (λ u. r)
+-- the mark before each part, or field, but the first; and what is read behind it
+abbrev pub separator_at : ℕ → Bool → TokenReader (Unit {0})
+separator_at mark is_first ts = if is_first then whole tt ts else mark_at mark ts
 
-abbrev pub field_at : List ℕ → Form → TokenReader Value
-field_at name f ts = after (label_at name ts) (λ u. value_at f)
+abbrev pub after_separator : {A : Type 0} → ℕ → Bool → TokenReader A → TokenReader A
+after_separator mark is_first r ts = after (separator_at mark is_first ts) (λ u. r)
+
+abbrev pub labelled_at : List ℕ → Form → TokenReader Value
+labelled_at name f ts = after (label_at name ts) (λ u. value_at f)

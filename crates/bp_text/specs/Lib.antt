@@ -3,3 +3,4 @@ pub mod Unread
 pub mod Leaves
 pub mod Items
 pub mod TextAnswers
+pub mod Printing

@@ -60,16 +60,16 @@ pub record Advances (old new : Unread) : Type 0 where
 -- ---- a reading from a cursor
 
 -- What is read from `old` on has this outcome, and leaves `new`. Where a token is at fault, it is the first of those that are left.
-abbrev pub Gives : {A : Type 0} → Outcome grammar.Token Why A → Unread → Unread → Result A Halt → Type 0
-Gives o old new (Ok a) = Advances old new × (o ≡ whole a (ahead new))
-Gives o old new (Err halt.More) = Advances old new × (o ≡ more)
-Gives o old new (Err halt.Bad) = Advances old new × (o ≡ bad (length (ahead new)) BadText)
-Gives o old new (Err halt.Float) = Advances old new × (o ≡ bad (length (ahead new)) Float)
-Gives o old new (Err halt.OutOfMemory) = Unit {0}
+abbrev pub HasOutcome : {A : Type 0} → Outcome grammar.Token Why A → Unread → Unread → Result A Halt → Type 0
+HasOutcome o old new (Ok a) = Advances old new × (o ≡ whole a (ahead new))
+HasOutcome o old new (Err halt.More) = Advances old new × (o ≡ more)
+HasOutcome o old new (Err halt.Bad) = Advances old new × (o ≡ bad (length (ahead new)) BadText)
+HasOutcome o old new (Err halt.Float) = Advances old new × (o ≡ bad (length (ahead new)) Float)
+HasOutcome o old new (Err halt.OutOfMemory) = Unit {0}
 
 -- a reading of the tokens that are left
 abbrev pub ReadsFrom : {A : Type 0} → (List grammar.Token → Outcome grammar.Token Why A) → Unread → Unread → Result A Halt → Type 0
-ReadsFrom reads old new result = Gives (reads (ahead old)) old new result
+ReadsFrom reads old new result = HasOutcome (reads (ahead old)) old new result
 
 -- the first token
 abbrev pub is_first : (grammar.Token → Bool) → List grammar.Token → Bool

@@ -1,5 +1,5 @@
 // The tokens of a text, each cut when it is the next one.
-ghost use Rattle.std.specs.Prelude.{◌≡◌, IfOk, []};
+ghost use Rattle.std.specs.Prelude.{◌≡◌, Some, IfOk, []};
 ghost use Rattle.bp_text_grammar.specs.Scanning.{lex};
 ghost use Rattle.readers.specs.Reader.{one};
 ghost use Rattle.bp_text_grammar.specs.Texts.{BadText, is_mark, is_word, mark_at, word_at};
@@ -166,7 +166,8 @@ impl<'a> Cursor<'a> {
 
     /// Takes the first token where it has a value: else it is at fault.
     pub fn take_as<T: Drop>(&mut self, value: Option<T>) -> Result<T, Halt>
-        ensures { ReadsFrom (one (λ t. value) BadText) self.old self.new result }
+        ensures reads { ReadsFrom (one (λ t. value) BadText) self.old self.new result }
+        ensures value { IfOk result (λ a. value ≡ Some a) }
     {
         match value {
             Some(value) => {

@@ -4,9 +4,13 @@
 //! of them: where no token stands, the last one says so, and no reader of tokens goes on with it.
 #![tactic(auto)]
 
+mod contents;
 mod cursor;
 mod error;
 mod halt;
+mod printed_shapes;
+mod printed_values;
+mod printing;
 mod quoted;
 mod scanning;
 mod sexps;
@@ -18,7 +22,11 @@ mod stop;
 #[cfg(test)]
 mod tests;
 mod token;
+mod values;
 
 pub use error::TextError;
+pub use printed_shapes::print_shape;
+pub use printed_values::{print_value, put_value};
+pub use printing::{put_decimal, put_quoted};
 pub use shape_fronts::read_shape_front;
 pub use shape_texts::read_shape;

@@ -4,7 +4,7 @@ ghost use Rattle.readers.specs.Reader.{after, mapped, one};
 ghost use Rattle.bp_text_grammar.specs.Texts.{BadText};
 ghost use Rattle.bp_text_grammar.specs.ValueTexts.{inside_at, sexp_at};
 ghost use Rattle.bp_text.specs.Unread.{ahead, ReadsFrom};
-ghost use Rattle.bp_text.specs.Leaves.{bytes_of, next_sexp_at};
+ghost use Rattle.bp_text.specs.Leaves.{quoted_bytes_of, next_sexp_at};
 
 use crate::cursor::Cursor;
 use crate::halt::Halt;
@@ -13,7 +13,7 @@ use bp_value::{Blob, Listed, Sexp};
 
 /// Takes a text.
 pub fn text(cursor: &mut Cursor) -> Result<Blob, Halt>
-    ensures { ReadsFrom (one bytes_of BadText) cursor.old cursor.new result }
+    ensures { ReadsFrom (one quoted_bytes_of BadText) cursor.old cursor.new result }
 {
     match cursor.first() {
         None => Err(Halt::More),

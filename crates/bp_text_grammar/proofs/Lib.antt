@@ -28,3 +28,4 @@ pub mod Examples
 pub mod PrintedTexts
 pub mod WholeReads
 pub mod ShapeTokens
+pub mod PrintedLaws

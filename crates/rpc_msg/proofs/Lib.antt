@@ -1,0 +1,6 @@
+pub mod Halting
+pub mod Directs
+pub mod Bodies
+pub mod Readable
+pub mod Parts
+pub mod HeaderSteps

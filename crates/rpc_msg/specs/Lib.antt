@@ -1,0 +1,6 @@
+pub mod Forms
+pub mod Values
+pub mod Bodies
+pub mod Taken
+pub mod Beats
+pub mod Limits

@@ -1,0 +1,25 @@
+//! What the frames of Async_rpc hold: a header, and messages.
+#![tactic(auto)]
+
+mod beat;
+mod data;
+mod ends;
+mod errors;
+mod fault;
+mod headers;
+mod message;
+mod reading;
+mod shared;
+mod streams;
+mod tags;
+mod values;
+
+pub use beat::{Beat, BeatAct};
+pub use data::{First, StreamPart, StreamQuery};
+pub use fault::{MsgError, MsgFault};
+pub use headers::read_header;
+pub use message::{Answer, Header, Message, Query, Response, RpcError};
+pub use reading::read_message;
+pub use shared::{CloseCause, Ending, FeedError, Limits, Part, Received, Ticked, Ticket};
+pub use streams::{read_first, read_part, read_stream_query};
+pub use values::read_whole;
