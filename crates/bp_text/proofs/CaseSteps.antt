@@ -1,30 +1,19 @@
--- A part that may be missing, up to what may follow it; and how many tokens a cursor has left.
-use Rattle.std.proofs.Common.{◌≡◌, refl, sym, ap, ◌∙◌, suc, ◌≤◌, Bool, true, false, Option, Some, None, List, [], ◌∷◌, length, Ok, Err, inl, inr, arith}
-use Rattle.std.proofs.lemmas.List.{length-append, length-map}
+-- A part that may be missing, up to what may follow it.
+use Rattle.std.proofs.Common.{◌≡◌, refl, sym, ap, ◌∙◌, suc, Bool, true, false, Option, Some, None, List, [], ◌∷◌, length, Ok, Err, inl, inr}
 use Rattle.readers.specs.Reader.{whole, after, mapped, one, leaf, maybe, stop}
 use Rattle.readers.proofs.Leaves.{is_or, pick_true, pick_false}
 use Rattle.bp_text_grammar.specs.Tokens as grammar
-use Rattle.bp_text_grammar.specs.Scanning.{lex}
 use Rattle.bp_text_grammar.specs.Texts.{BadText}
-use Rattle.bp_text_grammar.specs.WholeTexts.{seen}
 use Rattle.bp_text.specs.declared.halt.Halt.{Halt}
 use Rattle.bp_text.specs.declared.token.Token.{Token}
 use Rattle.bp_text.specs.Given.{token_of}
 use Rattle.bp_text.specs.Items.{ReadsUpTo}
-use Rattle.bp_text.specs.Unread.{Unread, ahead, is_first, Advances, ReadsFrom, TakesFirst}
+use Rattle.bp_text.specs.Unread.{Unread, ahead, is_first, ReadsFrom, TakesFirst}
 use Rattle.bp_text.proofs.Ahead.{goes_join}
-use Rattle.bp_text.proofs.TokenSteps.{passes_lex}
 use Rattle.bp_text.specs.Leaves.{TokenReader}
-use Rattle.bp_text.proofs.ReadSteps.{read_past, failed}
+use Rattle.bp_text.proofs.Readings.{gives_as, gives_past, gives_failed}
 
--- ---- how many tokens are left
-
-pub goes_less : (old new : Unread) → Advances old new → length (ahead new) ≤ length (ahead old)
-goes_less old new goes =
-    let all = ap length (passes_lex goes.taken old.rest new.rest goes.passes) ∙ length-append goes.taken (lex new.rest) in
-    let before = length-map (lex old.rest) (λ t. seen t.token) in
-    let left = length-map (lex new.rest) (λ t. seen t.token) in
-    omega arith
+-- ---- one token
 
 pub takes_one : {A : Type 0} (h : grammar.Token → Option A) (s u : List grammar.Token) (a : A) → one h BadText s ≡ whole a u → length s ≡ suc (length u)
 takes_one h [] u a is = absurd cc
@@ -49,8 +38,8 @@ module _ {A : Type 0} (sep ends : grammar.Token → Bool) (r : TokenReader A) wh
   module _ (old mid new : Unread) (token : Token) (is : is_first sep (ahead old) ≡ true) (takes : TakesFirst old mid (Ok token)) where
     pub maybe_failed : (e : Halt) → ReadsFrom {A = A} r mid new (Err e) → ReadsFrom {A = Option A} (maybe sep ends BadText r) old new (Err e)
     maybe_failed e reads =
-        read_past (maybe sep ends BadText r) (λ s. after (r s) (λ v. stop ends BadText (Some v))) old mid new (Err e) takes.0
-        (maybe_goes (ahead old) (ahead mid) (token_of token) takes.1 is) (failed r (λ v. stop ends BadText (Some v)) mid new e reads)
+        gives_past (maybe sep ends BadText r (ahead old)) old mid new (Err e) takes.0
+        (gives_as _ _ mid new (Err e) (maybe_goes (ahead old) (ahead mid) (token_of token) takes.1 is) (gives_failed (r (ahead mid)) (λ v. stop ends BadText (Some v)) mid new e reads))
 
     pub maybe_some : (v : A) → r (ahead mid) ≡ whole v (ahead new) → maybe sep ends BadText r (ahead old) ≡ stop ends BadText (Some v) (ahead new)
     maybe_some v reads =

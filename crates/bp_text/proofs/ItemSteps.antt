@@ -12,8 +12,9 @@ use Rattle.bp_text.specs.Items.{closing}
 use Rattle.bp_text.specs.Unread.{Unread, ahead, Advances, ReadsFrom}
 use Rattle.bp_text.proofs.Ahead.{goes_join}
 use Rattle.bp_text.specs.Leaves.{TokenReader}
-use Rattle.bp_text.proofs.ReadSteps.{read_past, failed}
-use Rattle.bp_text.proofs.CaseSteps.{goes_less, takes_one}
+use Rattle.bp_text.proofs.Readings.{gives_as, gives_past, gives_failed}
+use Rattle.bp_text.proofs.Turns.{no_more_ahead}
+use Rattle.bp_text.proofs.CaseSteps.{takes_one}
 
 -- the items so far, and what is read of an item and of those after it, are what is read of all
 abbrev pub Going : {A : Type 0} → TokenReader A → TokenReader (List A) → List A → List Token
@@ -38,8 +39,8 @@ pub items_failed : {A : Type 0} (r : TokenReader A) (next total : TokenReader (L
     → Advances start old → Going r next front (ahead old) (total (ahead start)) → ReadsFrom {A = A} r old new (Err e)
     → ReadsFrom {A = List A} total start new (Err e)
 items_failed {A = A} r next total front start old new e goes going is =
-    read_past total (λ s. after (r s) (λ v u. onward (λ vs x. whole vs x) (front ++ v ∷ []) (next u))) start old new (Err e) goes (sym going)
-    (failed {B = List A} r (λ v u. onward (λ vs x. whole vs x) (front ++ v ∷ []) (next u)) old new e is)
+    gives_past (total (ahead start)) start old new (Err e) goes
+    (gives_as _ _ old new (Err e) (sym going) (gives_failed (r (ahead old)) (λ v u. onward (λ vs x. whole vs x) (front ++ v ∷ []) (next u)) old new e is))
 
 -- ---- up to a closing mark
 
@@ -87,8 +88,8 @@ module _ {A : Type 0} (sep close : ℕ) (E : Token → Type 0) (L : A → List T
       → Between (items_at sep close r) front (ahead old) (total (ahead start)) → ReadsFrom {A = Bool} (one (closing sep close) BadText) old new (Err e)
       → ReadsFrom {A = List A} total start new (Err e)
   items_ended total start old new e goes between is =
-      read_past total (λ s. after (one (closing sep close) BadText s) after_mark) start old new (Err e) goes (sym between ∙ by_mark (ahead old))
-      (failed {B = List A} (one (closing sep close) BadText) after_mark old new e is)
+      gives_past (total (ahead start)) start old new (Err e) goes
+      (gives_as _ _ old new (Err e) (sym between ∙ by_mark (ahead old)) (gives_failed (one (closing sep close) BadText (ahead old)) after_mark old new e is))
 
   abbrev item_then : A → TokenReader (List A)
   item_then v u = onward (λ vs x. whole vs x) (front ++ v ∷ []) (items_at sep close r u)
@@ -138,5 +139,5 @@ module _ {A : Type 0} (sep close : ℕ) (E : Token → Type 0) (L : A → List T
     pub turn_less : length (ahead new) < length (ahead old)
     turn_less =
         let one_token = takes_one (closing sep close) (ahead mid) (ahead new) b is.1 in
-        let no_more = goes_less old mid on in
+        let no_more = no_more_ahead old mid on in
         omega arith

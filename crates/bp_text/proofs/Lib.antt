@@ -7,7 +7,6 @@ pub mod Ahead
 pub mod Readings
 pub mod OneToken
 pub mod Turns
-pub mod ReadSteps
 pub mod PartSteps
 pub mod CaseSteps
 pub mod ItemSteps

@@ -12,8 +12,11 @@ use Rattle.bp_text.specs.Leaves.{TokenReader}
 
 module _ (r : TokenReader Shape) where
   -- a field, from the colon on, and from its name on
+  abbrev pub with_shape : List ℕ → Shape → Field
+  with_shape name shape = record { name = name; shape = shape }
+
   abbrev pub field_shape : List ℕ → TokenReader Field
-  field_shape name s = mapped (λ shape. record { name = name; shape = shape }) (product_at r s)
+  field_shape name s = mapped (with_shape name) (product_at r s)
 
   abbrev pub colon_next : List ℕ → TokenReader Field
   colon_next name s = after (mark_at colon s) (λ u. field_shape name)

@@ -10,7 +10,12 @@ use Rattle.bp_text.specs.declared.token.Token.{Token}
 use Rattle.bp_text.specs.Given.{token_of}
 use Rattle.bp_text.specs.Items.{closing}
 use Rattle.bp_text.specs.Unread.{Unread, ahead, is_first, ReadsFrom, TakesFirst}
-use Rattle.bp_text.proofs.ReadSteps.{leaf_taken}
+
+-- the first token, which has a value, is taken
+leaf_taken : {A : Type 0} (h : grammar.Token → Option A) (old new : Unread) (token : Token) (a : A) → h (token_of token) ≡ Some a
+    → TakesFirst old new (Ok token) → ReadsFrom (one h BadText) old new (Ok a)
+leaf_taken h old new token a is (goes, cut) =
+    (goes, ap (one h BadText) cut ∙ ap (λ o. leaf o (length (token_of token ∷ ahead new)) BadText (ahead new)) is)
 
 first_same : (ts us vs : List grammar.Token) (a b : grammar.Token) → ts ≡ a ∷ us → ts ≡ b ∷ vs → a ≡ b
 first_same ts us vs a b one two = cc

@@ -1,8 +1,8 @@
 -- Bases by the brackets that may still be opened, and the readers of what stands in them.
-use Rattle.std.proofs.Common.{◌≡◌, ◌≢◌, refl, sym, ap, ◌∙◌, subst, ℕ, zero, suc, ◌-◌, Bool, true, false, not, ◌||◌, List, [], ◌∷◌, length, inl, inr, arith}
-use Rattle.readers.specs.Reader.{Outcome, whole, more, Any, Follows, Is, IsNot, Right, Plain, branch}
+use Rattle.std.proofs.Common.{◌≡◌, ◌≢◌, refl, sym, ap, ◌∙◌, subst, ℕ, zero, suc, ◌-◌, true, false, not, ◌||◌, List, [], ◌∷◌, length, inl, inr, arith}
+use Rattle.readers.specs.Reader.{Outcome, whole, Any, Follows, Is, IsNot, Right, Plain, branch}
 use Rattle.readers.proofs.Readers.{each-any}
-use Rattle.readers.proofs.Leaves.{is_or, pick_true, pick_false}
+use Rattle.readers.proofs.Leaves.{is_or}
 use Rattle.readers.proofs.Loops.{others_go_on, others_end, others_done}
 use Rattle.bp_value.specs.declared.shape.Shape.{Shape}
 use Rattle.bp_text_grammar.specs.Tokens.{Token, Word, Number, Big, Text, Char, Mark, Wrong, OpenText, OpenChar}
@@ -10,18 +10,10 @@ use Rattle.bp_text_grammar.specs.Texts.{Why, BadText, round_open, curly_open, sq
 use Rattle.bp_text_grammar.specs.ShapeTexts.{is_star, is_post, ends_shape, ends_case, IsPart, IsField, IsSumCase, IsPolyCase, IsBase, base_word_at, part_at, more_factors_at, field_at, sum_case_at, poly_case_at, round_at, curly_at, square_at, base_at}
 use Rattle.bp_text_grammar.proofs.RightShapes.{base_text, base_reads, part_reads, field_reads, sum_case_reads, poly_case_reads}
 use Rattle.bp_text.specs.Unread.{is_first}
+use Rattle.bp_text.proofs.Readings.{branch_is, branch_not}
 use Rattle.bp_text.proofs.ItemSteps.{Going, Between}
 
 -- ---- by the first token
-
-pub branch_one : {A : Type 0} (C : Token → Bool) (r q : List Token → Outcome Token Why A) (ts : List Token) → is_first C ts ≡ true → branch C r q ts ≡ r ts
-branch_one C r q [] is = absurd cc
-branch_one C r q (t ∷ ts) is = pick_true (C t) _ _ is
-
-pub branch_two : {A : Type 0} (C : Token → Bool) (r q : List Token → Outcome Token Why A) (ts : List Token) → q [] ≡ more → is_first C ts ≡ false
-    → branch C r q ts ≡ q ts
-branch_two C r q [] none is = sym none
-branch_two C r q (t ∷ ts) none is = pick_false (C t) _ _ is
 
 one_less : (d : ℕ) → suc d - 1 ≡ d
 one_less d = omega arith
@@ -43,33 +35,33 @@ module _ (ts : List Token) where
   unfolding base_at
   base_round zero some is = absurd (some refl)
   base_round (suc d) some is =
-      branch_one (is_mark round_open) (round_at (base_at d)) (curlies d) ts is ∙ ap (λ k. round_at (base_at k) ts) (sym (one_less d))
+      branch_is (is_mark round_open) (round_at (base_at d)) (curlies d) ts is ∙ ap (λ k. round_at (base_at k) ts) (sym (one_less d))
 
   pub base_curly : (room : ℕ) → room ≢ 0 → is_first (is_mark round_open) ts ≡ false → is_first (is_mark curly_open) ts ≡ true
       → base_at room ts ≡ curly_at (base_at (room - 1)) ts
   unfolding base_at
   base_curly zero some no_round is = absurd (some refl)
   base_curly (suc d) some no_round is =
-      branch_two (is_mark round_open) (round_at (base_at d)) (curlies d) ts refl no_round
-      ∙ (branch_one (is_mark curly_open) (curly_at (base_at d)) (squares d) ts is ∙ ap (λ k. curly_at (base_at k) ts) (sym (one_less d)))
+      branch_not (is_mark round_open) (round_at (base_at d)) (curlies d) ts refl no_round
+      ∙ (branch_is (is_mark curly_open) (curly_at (base_at d)) (squares d) ts is ∙ ap (λ k. curly_at (base_at k) ts) (sym (one_less d)))
 
   pub base_square : (room : ℕ) → room ≢ 0 → is_first (is_mark round_open) ts ≡ false → is_first (is_mark curly_open) ts ≡ false
       → is_first (is_mark square_open) ts ≡ true → base_at room ts ≡ square_at (base_at (room - 1)) ts
   unfolding base_at
   base_square zero some no_round no_curly is = absurd (some refl)
   base_square (suc d) some no_round no_curly is =
-      branch_two (is_mark round_open) (round_at (base_at d)) (curlies d) ts refl no_round
-      ∙ (branch_two (is_mark curly_open) (curly_at (base_at d)) (squares d) ts refl no_curly
-      ∙ (branch_one (is_mark square_open) (square_at (base_at d)) base_word_at ts is ∙ ap (λ k. square_at (base_at k) ts) (sym (one_less d))))
+      branch_not (is_mark round_open) (round_at (base_at d)) (curlies d) ts refl no_round
+      ∙ (branch_not (is_mark curly_open) (curly_at (base_at d)) (squares d) ts refl no_curly
+      ∙ (branch_is (is_mark square_open) (square_at (base_at d)) base_word_at ts is ∙ ap (λ k. square_at (base_at k) ts) (sym (one_less d))))
 
   pub base_plain : (room : ℕ) → room ≢ 0 → is_first (is_mark round_open) ts ≡ false → is_first (is_mark curly_open) ts ≡ false
       → is_first (is_mark square_open) ts ≡ false → base_at room ts ≡ base_word_at ts
   unfolding base_at
   base_plain zero some no_round no_curly no_square = absurd (some refl)
   base_plain (suc d) some no_round no_curly no_square =
-      branch_two (is_mark round_open) (round_at (base_at d)) (curlies d) ts refl no_round
-      ∙ (branch_two (is_mark curly_open) (curly_at (base_at d)) (squares d) ts refl no_curly
-      ∙ branch_two (is_mark square_open) (square_at (base_at d)) base_word_at ts refl no_square)
+      branch_not (is_mark round_open) (round_at (base_at d)) (curlies d) ts refl no_round
+      ∙ (branch_not (is_mark curly_open) (curly_at (base_at d)) (squares d) ts refl no_curly
+      ∙ branch_not (is_mark square_open) (square_at (base_at d)) base_word_at ts refl no_square)
 
 -- ---- items
 

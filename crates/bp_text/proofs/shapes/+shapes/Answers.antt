@@ -1,48 +1,49 @@
 -- By what stands in front; in a loop, item by item.
-use Rattle.std.proofs.Common.{refl, sym, ap, ◌∙◌, subst, ◌-◌, [], ◌∷◌, ◌++◌, length, None, Some, Ok, Err, arith}
+use Rattle.std.proofs.Common.{refl, sym, ap, ◌∙◌, subst, [], ◌∷◌, ◌++◌, length, None, Some, arith}
 use Rattle.std.proofs.lemmas.Result.{err_from_is_err_and}
 use Rattle.readers.specs.Reader.{Is, whole, one, maybe}
 use Rattle.bp_value.specs.declared.shape.Shape.TheVariants as shp
-use Rattle.bp_text_grammar.specs.Texts.{BadText, round_open, round_close, curly_open, square_open, bar, curly_close, semicolon, square_close, colon, backtick, is_mark, mark_at}
-use Rattle.bp_text_grammar.specs.ShapeTexts.{name_of, is_of, ends_shape, ends_case, IsField, IsSumCase, IsPolyCase, IsBase, base_word_at, part_at, more_factors_at, factors_at, product_at, field_at, sum_case_at, poly_case_at, some_at, round_at, curly_at, square_at, base_at}
+use Rattle.bp_text_grammar.specs.Texts.{BadText, bar, curly_close, semicolon, square_close, backtick, is_mark, mark_at}
+use Rattle.bp_text_grammar.specs.ShapeTexts.{name_of, is_of, ends_shape, ends_case, IsField, IsSumCase, IsPolyCase, IsBase, part_at, more_factors_at, factors_at, product_at, field_at, sum_case_at, poly_case_at, some_at, base_at}
 use Rattle.bp_text.specs.Given.{token_of}
 use Rattle.bp_text.specs.Items.{posted_at}
 use Rattle.bp_text.specs.Unread.{ahead}
 use Rattle.bp_text.proofs.Ahead.{goes_none, goes_join}
-use Rattle.bp_text.proofs.ReadSteps.{read_as, failed, then_failed, then_reads, map_failed, mapped_failed, mapped_reads}
+use Rattle.bp_text.proofs.Readings.{branch_is, branch_not, fails, gives_as, handed, made, next, same, shown, told, unmade}
 use Rattle.bp_text.proofs.ItemSteps.{Going, items_at, items_read, items_failed, items_up, turn_ended, turn_closed, turn_on, turn_less}
-use Rattle.bp_text.proofs.RoomSteps.{branch_one, branch_two, base_none, base_round, base_curly, base_square, base_plain, right_field, right_sum_case, right_poly_case, case_apart, factors_end, factors_go}
-use Rattle.bp_text.proofs.CaseSteps.{maybe_none, maybe_failed, maybe_some, mapped_up, then_up, goes_less}
-use Rattle.bp_text.proofs.MemberSteps.{colon_next, field_shape, with_args, case_args, with_arg, poly_arg, poly_name, round_end, in_round, in_curly, in_polys, in_sums, in_square}
+use Rattle.bp_text.proofs.RoomSteps.{base_none, base_round, base_curly, base_square, base_plain, right_field, right_sum_case, right_poly_case, case_apart, factors_end, factors_go}
+use Rattle.bp_text.proofs.CaseSteps.{maybe_none, maybe_failed, maybe_some, mapped_up, then_up}
+use Rattle.bp_text.proofs.Turns.{no_more_ahead}
+use Rattle.bp_text.proofs.MemberSteps.{colon_next, field_shape, with_shape, with_args, case_args, with_arg, poly_arg, poly_name, round_end, in_round, in_curly, in_polys, in_sums, in_square}
 use Rattle.bp_text.proofs.shapes.+shapes.Goals as goal
 
 -- ---- a base
 
 pub base-returns-then-room-eq0 : goal.base-returns-then-room-eq0
 base-returns-then-room-eq0 t c =
-    read_as (base_at c.args.room) base_word_at c.args.tokens.now c.base_word.new.tokens c.base_word.result
+    gives_as _ _ _ _ _
     (base_none c.args.room (ahead c.args.tokens.now) c.if-room-eq0.true) c.base_word.ensures
 
 pub base-returns-then-is_mark : goal.base-returns-then-is_mark
 base-returns-then-is_mark t c =
-    read_as (base_at c.args.room) (round_at (base_at (c.args.room - 1))) c.args.tokens.now c.round.new.tokens c.round.result
+    gives_as _ _ _ _ _
     (base_round (ahead c.args.tokens.now) c.args.room (λ e. omega arith) (sym c.is_mark.ensures ∙ c.if-is_mark.true)) c.round.ensures
 
 pub base-returns-then-is_mark-2 : goal.base-returns-then-is_mark-2
 base-returns-then-is_mark-2 t c =
-    read_as (base_at c.args.room) (curly_at (base_at (c.args.room - 1))) c.args.tokens.now c.record.new.tokens c.record.result
+    gives_as _ _ _ _ _
     (base_curly (ahead c.args.tokens.now) c.args.room (λ e. omega arith) (sym c.is_mark.ensures ∙ c.if-is_mark.false)
     (sym c.is_mark-2.ensures ∙ c.if-is_mark-2.true)) c.record.ensures
 
 pub base-returns-then-is_mark-3 : goal.base-returns-then-is_mark-3
 base-returns-then-is_mark-3 t c =
-    read_as (base_at c.args.room) (square_at (base_at (c.args.room - 1))) c.args.tokens.now c.variant.new.tokens c.variant.result
+    gives_as _ _ _ _ _
     (base_square (ahead c.args.tokens.now) c.args.room (λ e. omega arith) (sym c.is_mark.ensures ∙ c.if-is_mark.false)
     (sym c.is_mark-2.ensures ∙ c.if-is_mark-2.false) (sym c.is_mark-3.ensures ∙ c.if-is_mark-3.true)) c.variant.ensures
 
 pub base-returns : goal.base-returns
 base-returns t c =
-    read_as (base_at c.args.room) base_word_at c.args.tokens.now c.base_word-2.new.tokens c.base_word-2.result
+    gives_as _ _ _ _ _
     (base_plain (ahead c.args.tokens.now) c.args.room (λ e. omega arith) (sym c.is_mark.ensures ∙ c.if-is_mark.false)
     (sym c.is_mark-2.ensures ∙ c.if-is_mark-2.false) (sym c.is_mark-3.ensures ∙ c.if-is_mark-3.false)) c.base_word-2.ensures
 
@@ -65,7 +66,7 @@ factors-returns-then-not-is_mark t c = (
 
 pub factors-factors-smaller : goal.factors-factors-smaller
 factors-factors-smaller t c =
-    let less = goes_less c.factors.tokens c.part.new.tokens c.in-Ok.ensures.0 in
+    let less = no_more_ahead c.factors.tokens c.part.new.tokens c.in-Ok.ensures.0 in
     let one_token = ap length c.in_ok-take.ensures.1 in
     omega arith
 
@@ -219,37 +220,28 @@ poly_cases-returns-in-Err-closes t c =
 
 pub field-returns-in_err-pass_mark : goal.field-returns-in_err-pass_mark
 field-returns-in_err-pass_mark t c =
-    then_reads (one name_of BadText) (colon_next (base_at c.args.room)) c.args.tokens.now c.name.new.tokens c.pass_mark.new.self c.in_ok-name.name
-    c.from_residual-in_err-pass_mark.result c.in_ok-name.ensures
-    (then_failed (mark_at colon) (λ u. field_shape (base_at c.args.room) c.in_ok-name.name) c.name.new.tokens c.pass_mark.new.self c.in_err-pass_mark.field-0.0
-    c.from_residual-in_err-pass_mark.result c.from_residual-in_err-pass_mark.ensures.1 c.in_err-pass_mark.ensures)
+    handed _ _ _ _ _ c.from_residual-in_err-pass_mark.ensures.1
+    (next (colon_next (base_at c.args.room)) (told _ _ _ _ c.in_ok-name.ensures) (fails (λ u. field_shape (base_at c.args.room) c.in_ok-name.name) (told _ _ _ _ c.in_err-pass_mark.ensures)))
 
 pub field-returns-in_err-shape : goal.field-returns-in_err-shape
 field-returns-in_err-shape t c =
-    then_reads (one name_of BadText) (colon_next (base_at c.args.room)) c.args.tokens.now c.name.new.tokens c.product.new.tokens c.in_ok-name.name
-    c.from_residual-in_err-shape.result c.in_ok-name.ensures
-    (then_reads (mark_at colon) (λ u. field_shape (base_at c.args.room) c.in_ok-name.name) c.name.new.tokens c.pass_mark.new.self c.product.new.tokens tt
-    c.from_residual-in_err-shape.result c.in_ok-pass_mark.ensures
-    (mapped_failed (product_at (base_at c.args.room)) (λ s. record { name = c.in_ok-name.name; shape = s }) c.pass_mark.new.self c.product.new.tokens c.in_err-shape.field-0.0
-    c.from_residual-in_err-shape.result c.from_residual-in_err-shape.ensures.1 c.in_err-shape.ensures))
+    handed _ _ _ _ _ c.from_residual-in_err-shape.ensures.1
+    (next (colon_next (base_at c.args.room)) (told _ _ _ _ c.in_ok-name.ensures) (next (λ u. field_shape (base_at c.args.room) c.in_ok-name.name) (told _ _ _ _ c.in_ok-pass_mark.ensures)
+    (unmade (with_shape (base_at c.args.room) c.in_ok-name.name) (told _ _ _ _ c.in_err-shape.ensures))))
 
 pub field-returns : goal.field-returns
 field-returns t c =
-    then_reads (one name_of BadText) (colon_next (base_at c.args.room)) c.args.tokens.now c.name.new.tokens c.product.new.tokens c.in_ok-name.name
-    (Ok (record { name = c.in_ok-name.name; shape = c.in_ok-shape.shape })) c.in_ok-name.ensures
-    (then_reads (mark_at colon) (λ u. field_shape (base_at c.args.room) c.in_ok-name.name) c.name.new.tokens c.pass_mark.new.self c.product.new.tokens tt
-    (Ok (record { name = c.in_ok-name.name; shape = c.in_ok-shape.shape })) c.in_ok-pass_mark.ensures
-    (mapped_reads (product_at (base_at c.args.room)) (λ s. record { name = c.in_ok-name.name; shape = s }) c.pass_mark.new.self c.product.new.tokens c.in_ok-shape.shape
-    c.in_ok-shape.ensures))
+    shown _ _ _ _
+    (next (colon_next (base_at c.args.room)) (told _ _ _ _ c.in_ok-name.ensures) (next (λ u. field_shape (base_at c.args.room) c.in_ok-name.name) (told _ _ _ _ c.in_ok-pass_mark.ensures)
+    (made (with_shape (base_at c.args.room) c.in_ok-name.name) (told _ _ _ _ c.in_ok-shape.ensures))))
 
 pub case-returns-in_err-args : goal.case-returns-in_err-args
 case-returns-in_err-args t c =
     let p = err_from_is_err_and c.from_residual-in_err-args.result c.from_residual-in_err-args.ensures.1 in
+    let missing = maybe_failed is_of ends_case (factors_at (base_at c.args.room)) c.name.new.tokens c.take.new.self c.factors.new.tokens c.in_ok-take.field-0
+    (sym c.if-not-is_word.ensures) c.in_ok-take.ensures c.in_err-args.field-0.0 c.in_err-args.ensures in
     rw (p.1, p.2)
-    (then_reads (one name_of BadText) (case_args (base_at c.args.room)) c.args.tokens.now c.name.new.tokens c.factors.new.tokens c.in_ok-name.name (Err c.in_err-args.field-0.0) c.in_ok-name.ensures
-    (map_failed (maybe is_of ends_case BadText (factors_at (base_at c.args.room))) (with_args (base_at c.args.room) c.in_ok-name.name) c.name.new.tokens c.factors.new.tokens c.in_err-args.field-0.0
-    (maybe_failed is_of ends_case (factors_at (base_at c.args.room)) c.name.new.tokens c.take.new.self c.factors.new.tokens c.in_ok-take.field-0 (sym c.if-not-is_word.ensures)
-    c.in_ok-take.ensures c.in_err-args.field-0.0 c.in_err-args.ensures)))
+    (shown _ _ _ _ (next (case_args (base_at c.args.room)) (told _ _ _ _ c.in_ok-name.ensures) (unmade (with_args (base_at c.args.room) c.in_ok-name.name) (told _ _ _ _ missing))))
 
 pub case-returns : goal.case-returns
 case-returns t c =
@@ -266,8 +258,7 @@ pub poly_case-returns-in_err-name : goal.poly_case-returns-in_err-name
 poly_case-returns-in_err-name t c =
     let p = err_from_is_err_and c.from_residual-in_err-name.result c.from_residual-in_err-name.ensures.1 in
     rw (p.1, p.2)
-    (then_reads (mark_at backtick) (poly_name (base_at c.args.room)) c.args.tokens.now c.pass_mark.new.self c.name.new.tokens tt (Err c.in_err-name.field-0.0) c.in_ok-pass_mark.ensures
-    (failed (one name_of BadText) (poly_arg (base_at c.args.room)) c.pass_mark.new.self c.name.new.tokens c.in_err-name.field-0.0 c.in_err-name.ensures))
+    (shown _ _ _ _ (next (poly_name (base_at c.args.room)) (told _ _ _ _ c.in_ok-pass_mark.ensures) (fails (poly_arg (base_at c.args.room)) (told _ _ _ _ c.in_err-name.ensures))))
 
 pub poly_case-returns-then-not-is_word : goal.poly_case-returns-then-not-is_word
 poly_case-returns-then-not-is_word t c =
@@ -281,12 +272,11 @@ poly_case-returns-then-not-is_word t c =
 pub poly_case-returns-in_err-shape : goal.poly_case-returns-in_err-shape
 poly_case-returns-in_err-shape t c =
     let p = err_from_is_err_and c.from_residual-in_err-shape.result c.from_residual-in_err-shape.ensures.1 in
+    let missing = maybe_failed is_of ends_case (product_at (base_at c.args.room)) c.name.new.tokens c.take.new.self c.product.new.tokens c.in_ok-take.field-0
+    (sym c.if-not-is_word.ensures) c.in_ok-take.ensures c.in_err-shape.field-0.0 c.in_err-shape.ensures in
     rw (p.1, p.2)
-    (then_reads (mark_at backtick) (poly_name (base_at c.args.room)) c.args.tokens.now c.pass_mark.new.self c.product.new.tokens tt (Err c.in_err-shape.field-0.0) c.in_ok-pass_mark.ensures
-    (then_reads (one name_of BadText) (poly_arg (base_at c.args.room)) c.pass_mark.new.self c.name.new.tokens c.product.new.tokens c.in_ok-name.name (Err c.in_err-shape.field-0.0) c.in_ok-name.ensures
-    (map_failed (maybe is_of ends_case BadText (product_at (base_at c.args.room))) (with_arg (base_at c.args.room) c.in_ok-name.name) c.name.new.tokens c.product.new.tokens c.in_err-shape.field-0.0
-    (maybe_failed is_of ends_case (product_at (base_at c.args.room)) c.name.new.tokens c.take.new.self c.product.new.tokens c.in_ok-take.field-0 (sym c.if-not-is_word.ensures)
-    c.in_ok-take.ensures c.in_err-shape.field-0.0 c.in_err-shape.ensures))))
+    (shown _ _ _ _ (next (poly_name (base_at c.args.room)) (told _ _ _ _ c.in_ok-pass_mark.ensures) (next (poly_arg (base_at c.args.room)) (told _ _ _ _ c.in_ok-name.ensures)
+    (unmade (with_arg (base_at c.args.room) c.in_ok-name.name) (told _ _ _ _ missing)))))
 
 pub poly_case-returns : goal.poly_case-returns
 poly_case-returns t c =
@@ -305,66 +295,54 @@ poly_case-returns t c =
 
 pub part-returns : goal.part-returns
 part-returns t c =
-    then_reads (base_at c.args.room) posted_at c.args.tokens.now c.base.new.tokens c.posted.new.tokens c.in_ok-base.base c.posted.result c.in_ok-base.ensures c.posted.ensures
+    shown _ _ _ _ (next posted_at (told _ _ _ _ c.in_ok-base.ensures) (told _ _ _ _ c.posted.ensures))
 
 pub record-returns-in_err-fields : goal.record-returns-in_err-fields
 record-returns-in_err-fields t c =
-    then_reads (mark_at curly_open) (in_curly (base_at c.args.room)) c.args.tokens.now c.pass_mark.new.self c.fields.new.tokens tt c.from_residual-in_err-fields.result c.in_ok-pass_mark.ensures
-    (mapped_failed (some_at semicolon curly_close (field_at (base_at c.args.room))) shp.Fields c.pass_mark.new.self c.fields.new.tokens c.in_err-fields.field-0.0
-    c.from_residual-in_err-fields.result c.from_residual-in_err-fields.ensures.1 c.in_err-fields.ensures)
+    handed _ _ _ _ _ c.from_residual-in_err-fields.ensures.1
+    (next (in_curly (base_at c.args.room)) (told _ _ _ _ c.in_ok-pass_mark.ensures) (unmade shp.Fields (told _ _ _ _ c.in_err-fields.ensures)))
 
 pub record-returns : goal.record-returns
 record-returns t c =
-    then_reads (mark_at curly_open) (in_curly (base_at c.args.room)) c.args.tokens.now c.pass_mark.new.self c.fields.new.tokens tt (Ok (shp.Fields c.in_ok-fields.fields)) c.in_ok-pass_mark.ensures
-    (mapped_reads (some_at semicolon curly_close (field_at (base_at c.args.room))) shp.Fields c.pass_mark.new.self c.fields.new.tokens c.in_ok-fields.fields c.in_ok-fields.ensures)
+    shown _ _ _ _ (next (in_curly (base_at c.args.room)) (told _ _ _ _ c.in_ok-pass_mark.ensures) (made shp.Fields (told _ _ _ _ c.in_ok-fields.ensures)))
 
 pub round-returns-in_err-shape : goal.round-returns-in_err-shape
 round-returns-in_err-shape t c =
-    then_reads (mark_at round_open) (in_round (base_at c.args.room)) c.args.tokens.now c.pass_mark.new.self c.product.new.tokens tt c.from_residual-in_err-shape.result c.in_ok-pass_mark.ensures
-    (then_failed (product_at (base_at c.args.room)) (round_end (base_at c.args.room)) c.pass_mark.new.self c.product.new.tokens c.in_err-shape.field-0.0
-    c.from_residual-in_err-shape.result c.from_residual-in_err-shape.ensures.1 c.in_err-shape.ensures)
+    handed _ _ _ _ _ c.from_residual-in_err-shape.ensures.1
+    (next (in_round (base_at c.args.room)) (told _ _ _ _ c.in_ok-pass_mark.ensures) (fails (round_end (base_at c.args.room)) (told _ _ _ _ c.in_err-shape.ensures)))
 
 pub round-returns-in_err-pass_mark-2 : goal.round-returns-in_err-pass_mark-2
 round-returns-in_err-pass_mark-2 t c =
-    then_reads (mark_at round_open) (in_round (base_at c.args.room)) c.args.tokens.now c.pass_mark.new.self c.pass_mark-2.new.self tt c.from_residual-in_err-pass_mark-2.result c.in_ok-pass_mark.ensures
-    (then_reads (product_at (base_at c.args.room)) (round_end (base_at c.args.room)) c.pass_mark.new.self c.product.new.tokens c.pass_mark-2.new.self c.in_ok-shape.shape
-    c.from_residual-in_err-pass_mark-2.result c.in_ok-shape.ensures
-    (mapped_failed (mark_at round_close) (λ u. c.in_ok-shape.shape) c.product.new.tokens c.pass_mark-2.new.self c.in_err-pass_mark-2.field-0.0
-    c.from_residual-in_err-pass_mark-2.result c.from_residual-in_err-pass_mark-2.ensures.1 c.in_err-pass_mark-2.ensures))
+    handed _ _ _ _ _ c.from_residual-in_err-pass_mark-2.ensures.1
+    (next (in_round (base_at c.args.room)) (told _ _ _ _ c.in_ok-pass_mark.ensures) (next (round_end (base_at c.args.room)) (told _ _ _ _ c.in_ok-shape.ensures)
+    (unmade (λ u. c.in_ok-shape.shape) (told _ _ _ _ c.in_err-pass_mark-2.ensures))))
 
 pub round-returns : goal.round-returns
 round-returns t c =
-    then_reads (mark_at round_open) (in_round (base_at c.args.room)) c.args.tokens.now c.pass_mark.new.self c.pass_mark-2.new.self tt (Ok c.in_ok-shape.shape) c.in_ok-pass_mark.ensures
-    (then_reads (product_at (base_at c.args.room)) (round_end (base_at c.args.room)) c.pass_mark.new.self c.product.new.tokens c.pass_mark-2.new.self c.in_ok-shape.shape
-    (Ok c.in_ok-shape.shape) c.in_ok-shape.ensures
-    (mapped_reads (mark_at round_close) (λ u. c.in_ok-shape.shape) c.product.new.tokens c.pass_mark-2.new.self tt c.in_ok-pass_mark-2.ensures))
+    shown _ _ _ _
+    (next (in_round (base_at c.args.room)) (told _ _ _ _ c.in_ok-pass_mark.ensures) (next (round_end (base_at c.args.room)) (told _ _ _ _ c.in_ok-shape.ensures)
+    (made (λ u. c.in_ok-shape.shape) (told _ _ _ _ c.in_ok-pass_mark-2.ensures))))
 
 pub variant-returns-in_err-cases : goal.variant-returns-in_err-cases
 variant-returns-in_err-cases t c =
-    then_reads (mark_at square_open) (in_square (base_at c.args.room)) c.args.tokens.now c.pass_mark.new.self c.poly_cases.new.tokens tt c.from_residual-in_err-cases.result c.in_ok-pass_mark.ensures
-    (read_as (in_square (base_at c.args.room) tt) (in_polys (base_at c.args.room)) c.pass_mark.new.self c.poly_cases.new.tokens c.from_residual-in_err-cases.result
-    (branch_one (is_mark backtick) (in_polys (base_at c.args.room)) (in_sums (base_at c.args.room)) (ahead c.pass_mark.new.self) (sym c.is_mark.ensures ∙ c.if-is_mark.true))
-    (mapped_failed (some_at bar square_close (poly_case_at (base_at c.args.room))) shp.Poly c.pass_mark.new.self c.poly_cases.new.tokens c.in_err-cases.field-0.0
-    c.from_residual-in_err-cases.result c.from_residual-in_err-cases.ensures.1 c.in_err-cases.ensures))
+    handed _ _ _ _ _ c.from_residual-in_err-cases.ensures.1
+    (next (in_square (base_at c.args.room)) (told _ _ _ _ c.in_ok-pass_mark.ensures) (same (branch_is (is_mark backtick) (in_polys (base_at c.args.room)) (in_sums (base_at c.args.room)) (ahead c.pass_mark.new.self) (sym c.is_mark.ensures ∙ c.if-is_mark.true))
+    (unmade shp.Poly (told _ _ _ _ c.in_err-cases.ensures))))
 
 pub variant-returns-then-is_mark : goal.variant-returns-then-is_mark
 variant-returns-then-is_mark t c =
-    then_reads (mark_at square_open) (in_square (base_at c.args.room)) c.args.tokens.now c.pass_mark.new.self c.poly_cases.new.tokens tt (Ok (shp.Poly c.in_ok-cases.cases)) c.in_ok-pass_mark.ensures
-    (read_as (in_square (base_at c.args.room) tt) (in_polys (base_at c.args.room)) c.pass_mark.new.self c.poly_cases.new.tokens (Ok (shp.Poly c.in_ok-cases.cases))
-    (branch_one (is_mark backtick) (in_polys (base_at c.args.room)) (in_sums (base_at c.args.room)) (ahead c.pass_mark.new.self) (sym c.is_mark.ensures ∙ c.if-is_mark.true))
-    (mapped_reads (some_at bar square_close (poly_case_at (base_at c.args.room))) shp.Poly c.pass_mark.new.self c.poly_cases.new.tokens c.in_ok-cases.cases c.in_ok-cases.ensures))
+    shown _ _ _ _
+    (next (in_square (base_at c.args.room)) (told _ _ _ _ c.in_ok-pass_mark.ensures) (same (branch_is (is_mark backtick) (in_polys (base_at c.args.room)) (in_sums (base_at c.args.room)) (ahead c.pass_mark.new.self) (sym c.is_mark.ensures ∙ c.if-is_mark.true))
+    (made shp.Poly (told _ _ _ _ c.in_ok-cases.ensures))))
 
 pub variant-returns-in_err-cases-2 : goal.variant-returns-in_err-cases-2
 variant-returns-in_err-cases-2 t c =
-    then_reads (mark_at square_open) (in_square (base_at c.args.room)) c.args.tokens.now c.pass_mark.new.self c.cases.new.tokens tt c.from_residual-in_err-cases-2.result c.in_ok-pass_mark.ensures
-    (read_as (in_square (base_at c.args.room) tt) (in_sums (base_at c.args.room)) c.pass_mark.new.self c.cases.new.tokens c.from_residual-in_err-cases-2.result
-    (branch_two (is_mark backtick) (in_polys (base_at c.args.room)) (in_sums (base_at c.args.room)) (ahead c.pass_mark.new.self) refl (sym c.is_mark.ensures ∙ c.if-is_mark.false))
-    (mapped_failed (some_at bar square_close (sum_case_at (base_at c.args.room))) shp.Sum c.pass_mark.new.self c.cases.new.tokens c.in_err-cases-2.field-0.0
-    c.from_residual-in_err-cases-2.result c.from_residual-in_err-cases-2.ensures.1 c.in_err-cases-2.ensures))
+    handed _ _ _ _ _ c.from_residual-in_err-cases-2.ensures.1
+    (next (in_square (base_at c.args.room)) (told _ _ _ _ c.in_ok-pass_mark.ensures) (same (branch_not (is_mark backtick) (in_polys (base_at c.args.room)) (in_sums (base_at c.args.room)) (ahead c.pass_mark.new.self) refl (sym c.is_mark.ensures ∙ c.if-is_mark.false))
+    (unmade shp.Sum (told _ _ _ _ c.in_err-cases-2.ensures))))
 
 pub variant-returns : goal.variant-returns
 variant-returns t c =
-    then_reads (mark_at square_open) (in_square (base_at c.args.room)) c.args.tokens.now c.pass_mark.new.self c.cases.new.tokens tt (Ok (shp.Sum c.in_ok-cases-2.cases)) c.in_ok-pass_mark.ensures
-    (read_as (in_square (base_at c.args.room) tt) (in_sums (base_at c.args.room)) c.pass_mark.new.self c.cases.new.tokens (Ok (shp.Sum c.in_ok-cases-2.cases))
-    (branch_two (is_mark backtick) (in_polys (base_at c.args.room)) (in_sums (base_at c.args.room)) (ahead c.pass_mark.new.self) refl (sym c.is_mark.ensures ∙ c.if-is_mark.false))
-    (mapped_reads (some_at bar square_close (sum_case_at (base_at c.args.room))) shp.Sum c.pass_mark.new.self c.cases.new.tokens c.in_ok-cases-2.cases c.in_ok-cases-2.ensures))
+    shown _ _ _ _
+    (next (in_square (base_at c.args.room)) (told _ _ _ _ c.in_ok-pass_mark.ensures) (same (branch_not (is_mark backtick) (in_polys (base_at c.args.room)) (in_sums (base_at c.args.room)) (ahead c.pass_mark.new.self) refl (sym c.is_mark.ensures ∙ c.if-is_mark.false))
+    (made shp.Sum (told _ _ _ _ c.in_ok-cases-2.ensures))))
