@@ -2,3 +2,4 @@ pub mod Given
 pub mod Unread
 pub mod Leaves
 pub mod Printing
+pub mod ValueAnswers

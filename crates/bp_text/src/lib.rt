@@ -18,8 +18,11 @@ mod stop;
 #[cfg(test)]
 mod tests;
 mod token;
+mod value_texts;
 mod values;
 
+pub use error::TextError;
 pub use printed_shapes::print_shape;
 pub use printed_values::{print_value, put_value};
 pub use printing::{put_decimal, put_quoted};
+pub use value_texts::read_value;

@@ -27,3 +27,4 @@ pub mod LaidShapes
 pub mod Examples
 pub mod PrintedTexts
 pub mod PrintedLaws
+pub mod ShortTokens
