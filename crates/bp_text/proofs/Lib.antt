@@ -27,3 +27,4 @@ pub mod ValueBytes
 pub mod ShapeBytes
 pub mod GoodInside
 pub mod OfForm
+pub mod Verdicts

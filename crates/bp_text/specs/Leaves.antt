@@ -1,9 +1,7 @@
 -- What one token says, in the types of the code.
 use Rattle.std.specs.Prelude.{Option, Some, None, ℕ, ℤ, Bool, List, [], ◌∷◌, if◌then◌else◌}
-use Rattle.std.specs.List.{All}
 use Rattle.bp_value.specs.declared.value.Value.{Value}
-use Rattle.bp_value.specs.Form.{Form, Parts}
-use Rattle.bp_value.specs.Faults.{nodes, part_nodes, IsFaultless}
+use Rattle.bp_value.specs.Form.{Form}
 use Rattle.readers.specs.Reader.{Outcome, whole, after, mapped, branch}
 use Rattle.bp_text_grammar.specs.Tokens.{Token, Number, Text, Char}
 use Rattle.bp_text_grammar.specs.Texts.{Why, semicolon, square_close, round_close, is_mark, mark_at, when}
@@ -26,13 +24,6 @@ byte_of _ = None
 abbrev pub number_in : ℕ → Token → Option ℤ
 number_in bits (Number n) = when (in_range bits n) n
 number_in bits _ = None
-
--- a form within a good one, at some depth of it, and the parts of such a form
-abbrev pub IsWithinGood : Form → Type 0
-IsWithinGood f = (depth : ℕ) × All IsFaultless (nodes depth f)
-
-abbrev pub AreWithinGood : Parts → Type 0
-AreWithinGood fs = (depth : ℕ) × All IsFaultless (part_nodes depth fs)
 
 -- ---- one turn of a list
 

@@ -4,3 +4,4 @@ pub mod Leaves
 pub mod Items
 pub mod TextAnswers
 pub mod Printing
+pub mod ValueAnswers

@@ -1,5 +1,6 @@
+ghost use Rattle.std.specs.Prelude.{◌≡◌};
+
 use bp_value::{OutOfMemory, ShapeFault};
-use std::alloc::{AllocError, AllocFailed};
 
 /// Why a text is refused. Places are counted in bytes, from 0.
 #[derive(Debug, Clone, Copy, PartialEq, Eq)]
@@ -15,7 +16,6 @@ pub enum TextError {
 }
 
 impl From<OutOfMemory> for TextError {
-    ghost use Rattle.std.specs.Prelude.{◌≡◌};
     ghost use Rattle.bp_text.specs.declared.error.TextError.TheVariants as error;
 
     ghost from_gives = { λ _ e. e ≡ error.OutOfMemory };

@@ -22,6 +22,7 @@ mod stop;
 #[cfg(test)]
 mod tests;
 mod token;
+mod value_texts;
 mod values;
 
 pub use error::TextError;
@@ -30,3 +31,4 @@ pub use printed_values::{print_value, put_value};
 pub use printing::{put_decimal, put_quoted};
 pub use shape_fronts::read_shape_front;
 pub use shape_texts::read_shape;
+pub use value_texts::read_value;

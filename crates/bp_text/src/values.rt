@@ -9,7 +9,8 @@ ghost use Rattle.bp_text_grammar.specs.Texts.{BadText, comma, semicolon, mark_at
 ghost use Rattle.bp_text_grammar.specs.ValueTexts as texts;
 ghost use Rattle.bp_text_grammar.specs.ValueTexts.{arguments_at, fields_at, items_at, parts_at, value_at};
 ghost use Rattle.bp_text.specs.Unread.{ahead, ReadsFrom};
-ghost use Rattle.bp_text.specs.Leaves.{byte_of, labelled_at, next_item_at, number_in, of_first, after_separator, separator_at, AreWithinGood, IsWithinGood};
+ghost use Rattle.bp_text.specs.Printing.{AreGoodInside, IsGoodInside};
+ghost use Rattle.bp_text.specs.Leaves.{byte_of, labelled_at, next_item_at, number_in, of_first, after_separator, separator_at};
 
 use crate::cursor::Cursor;
 use crate::halt::Halt;
@@ -20,7 +21,7 @@ use bp_value::{Boxed, Case, Field, Listed, PolyCase, Shape, Value};
 /// Reads the value of a text of the shape.
 #[cycle(values)]
 pub fn value(shape: &Shape, cursor: &mut Cursor) -> Result<Value, Halt>
-    requires { IsWithinGood (form_of shape.now) }
+    requires { IsGoodInside (form_of shape.now) }
     ensures { ReadsFrom (value_at (form_of shape.now)) cursor.old cursor.new result }
 {
     match shape {
@@ -108,7 +109,7 @@ fn is_in_range(number: i64, bits: u32) -> bool
 // `none`, or `some` and a value.
 #[cycle(values)]
 fn option(item: &Shape, cursor: &mut Cursor) -> Result<Value, Halt>
-    requires { IsWithinGood (form_of item.now) }
+    requires { IsGoodInside (form_of item.now) }
     ensures { ReadsFrom (value_at (form.opt (form_of item.now))) cursor.old cursor.new result }
 {
     if cursor.is_word(b"none") {
@@ -122,7 +123,7 @@ fn option(item: &Shape, cursor: &mut Cursor) -> Result<Value, Halt>
 
 #[cycle(values)]
 fn list(item: &Shape, cursor: &mut Cursor) -> Result<Value, Halt>
-    requires { IsWithinGood (form_of item.now) }
+    requires { IsGoodInside (form_of item.now) }
     ensures { ReadsFrom (value_at (form.listed (form_of item.now))) cursor.old cursor.new result }
 {
     cursor.pass_mark(b'[')?;
@@ -132,7 +133,7 @@ fn list(item: &Shape, cursor: &mut Cursor) -> Result<Value, Halt>
 // The items of a list after its `[`, and its `]`.
 #[cycle(values)]
 fn items(item: &Shape, cursor: &mut Cursor) -> Result<Listed<Value>, Halt>
-    requires { IsWithinGood (form_of item.now) }
+    requires { IsGoodInside (form_of item.now) }
     ensures { ReadsFrom (items_at (value_at (form_of item.now))) cursor.old cursor.new result }
 {
     let mut items = Vec::new(cursor.alloc());
@@ -153,7 +154,7 @@ fn items(item: &Shape, cursor: &mut Cursor) -> Result<Listed<Value>, Halt>
 // An item after a `;`, or none and the `]`.
 #[cycle(values)]
 fn next_item(item: &Shape, cursor: &mut Cursor) -> Result<Option<Value>, Halt>
-    requires { IsWithinGood (form_of item.now) }
+    requires { IsGoodInside (form_of item.now) }
     ensures reads { let r = value_at (form_of item.now) in
         ReadsFrom (next_item_at r) cursor.old cursor.new result }
     ensures fewer { IfOk result (λ next. IfSome next (λ v.
@@ -169,7 +170,7 @@ fn next_item(item: &Shape, cursor: &mut Cursor) -> Result<Option<Value>, Halt>
 
 #[cycle(values)]
 fn tuple(shapes: &[Shape], cursor: &mut Cursor) -> Result<Value, Halt>
-    requires { AreWithinGood (parts (map form_of shapes.now)) }
+    requires { AreGoodInside (parts (map form_of shapes.now)) }
     ensures { let f = form.tuple (parts (map form_of shapes.now)) in
         ReadsFrom (value_at f) cursor.old cursor.new result }
 {
@@ -180,7 +181,7 @@ fn tuple(shapes: &[Shape], cursor: &mut Cursor) -> Result<Value, Halt>
 // Parts after a `(`, and the `)`.
 #[cycle(values)]
 fn all_parts(shapes: &[Shape], cursor: &mut Cursor) -> Result<Listed<Value>, Halt>
-    requires { AreWithinGood (parts (map form_of shapes.now)) }
+    requires { AreGoodInside (parts (map form_of shapes.now)) }
     ensures { ReadsFrom (parts_at (parts (map form_of shapes.now))) cursor.old cursor.new result }
 {
     let mut values = Vec::new(cursor.alloc());
@@ -196,7 +197,7 @@ fn all_parts(shapes: &[Shape], cursor: &mut Cursor) -> Result<Listed<Value>, Hal
 
 #[cycle(values)]
 fn next_part(is_first: bool, shape: &Shape, cursor: &mut Cursor) -> Result<Value, Halt>
-    requires { IsWithinGood (form_of shape.now) }
+    requires { IsGoodInside (form_of shape.now) }
     ensures { let r = value_at (form_of shape.now) in
         ReadsFrom (after_separator comma is_first r) cursor.old cursor.new result }
 {
@@ -217,7 +218,7 @@ fn separator(mark: u8, is_first: bool, cursor: &mut Cursor) -> Result<(), Halt>
 // Fields in curly brackets, in the order of the shape.
 #[cycle(values)]
 fn record(fields: &[Field], cursor: &mut Cursor) -> Result<Value, Halt>
-    requires { AreWithinGood (named_parts (map field_form fields.now)) }
+    requires { AreGoodInside (named_parts (map field_form fields.now)) }
     ensures { let f = form.fields (named_parts (map field_form fields.now)) in
         ReadsFrom (value_at f) cursor.old cursor.new result }
 {
@@ -235,7 +236,7 @@ fn record(fields: &[Field], cursor: &mut Cursor) -> Result<Value, Halt>
 
 #[cycle(values)]
 fn next_field(is_first: bool, field: &Field, cursor: &mut Cursor) -> Result<Value, Halt>
-    requires { IsWithinGood (field_form field.now).1 }
+    requires { IsGoodInside (field_form field.now).1 }
     ensures { let f = field_form field.now in
         ReadsFrom (after_separator semicolon is_first (labelled_at f.0 f.1))
         cursor.old cursor.new result }
@@ -256,7 +257,7 @@ fn label(name: &[u8], cursor: &mut Cursor) -> Result<(), Halt>
 // The name of a case, and its arguments.
 #[cycle(values)]
 fn sum(sum: &[Case], cursor: &mut Cursor) -> Result<Value, Halt>
-    requires { IsWithinGood (form.sum (cases (map case_form sum.now))) }
+    requires { IsGoodInside (form.sum (cases (map case_form sum.now))) }
     ensures { let f = form.sum (cases (map case_form sum.now)) in
         ReadsFrom (value_at f) cursor.old cursor.new result }
 {
@@ -294,7 +295,7 @@ fn case_place(sum: &[Case], cursor: &Cursor) -> Option<usize>
 // Nothing, or all arguments in round brackets.
 #[cycle(values)]
 fn arguments(shapes: &[Shape], cursor: &mut Cursor) -> Result<Listed<Value>, Halt>
-    requires { AreWithinGood (parts (map form_of shapes.now)) }
+    requires { AreGoodInside (parts (map form_of shapes.now)) }
     ensures { let fs = parts (map form_of shapes.now) in
         ReadsFrom (arguments_at fs) cursor.old cursor.new result }
 {
@@ -308,7 +309,7 @@ fn arguments(shapes: &[Shape], cursor: &mut Cursor) -> Result<Listed<Value>, Hal
 // A backtick, the name of a case, and its argument if it has one.
 #[cycle(values)]
 fn poly(poly: &[PolyCase], cursor: &mut Cursor) -> Result<Value, Halt>
-    requires { IsWithinGood (form.poly (cases (map poly_form poly.now))) }
+    requires { IsGoodInside (form.poly (cases (map poly_form poly.now))) }
     ensures { let f = form.poly (cases (map poly_form poly.now)) in
         ReadsFrom (value_at f) cursor.old cursor.new result }
 {
@@ -346,7 +347,7 @@ fn poly_place(poly: &[PolyCase], cursor: &Cursor) -> Option<usize>
 // The argument of a case, if it has one, in round brackets.
 #[cycle(values)]
 fn argument(case: &PolyCase, cursor: &mut Cursor) -> Result<Listed<Value>, Halt>
-    requires { AreWithinGood (poly_form case.now).1 }
+    requires { AreGoodInside (poly_form case.now).1 }
     ensures { let fs = (poly_form case.now).1 in
         ReadsFrom (arguments_at fs) cursor.old cursor.new result }
 {

@@ -29,3 +29,4 @@ pub mod PrintedTexts
 pub mod WholeReads
 pub mod ShapeTokens
 pub mod PrintedLaws
+pub mod ShortTokens

@@ -9,12 +9,13 @@ use Rattle.bp_text_grammar.specs.ValueTexts.{value_at, parts_at, label_at, argum
 use Rattle.bp_text.specs.Unread.{ahead}
 use Rattle.bp_text.proofs.Ahead.{goes_none}
 use Rattle.bp_text.proofs.CaseNames.{case_reads}
+use Rattle.bp_text.proofs.GoodInside.{item_good, argument_good}
 use Rattle.bp_text.proofs.OneToken.{text_reads}
 use Rattle.bp_text.proofs.Parts.{left_as, part_words, field_words, are_part_words, are_field_words, part_goes, part_fails, parts_end, parts_stay}
 use Rattle.bp_text.proofs.Readings.{told, shown, handed, halted, same, next, fails, made, unmade}
 use Rattle.bp_text.proofs.Turns.{no_more_ahead, mark_fewer, items_turn, turn_end, turn_fails, turn_goes}
 use Rattle.bp_text.proofs.ValueSteps.{value_none, none_there, some_there, items_open, items_start, next_item_open, none_yet_is, parts_start, record_start, shapes_next, shapes_end, fields_next, fields_end, no_arguments, some_arguments, one_argument, none_argument}
-use Rattle.bp_text.proofs.Within.{within_opt, within_listed, within_tuple, within_fields, within_field, within_part, within_case, within_poly, within_argument, few_cases, few_poly}
+use Rattle.bp_text.proofs.Within.{within_opt, within_listed, within_tuple, within_fields, within_field, within_case, within_poly, few_cases, few_poly}
 use Rattle.bp_text.proofs.values.+values.Goals as goal
 
 -- ---- the dispatch
@@ -201,7 +202,7 @@ all_parts-parts-init t c = parts_start _ _ _ c.new-values.ensures.items
 
 pub all_parts-next_part-requires : goal.all_parts-next_part-requires
 all_parts-next_part-requires t c =
-    (search (rules, shape_lemmas, get_or_read), within_part c.args.shapes.now _ _ c.parts-test.true c.shape-item.is c.requires)
+    (search (rules, shape_lemmas, get_or_read), item_good c.args.shapes.now _ _ c.parts-test.true c.shape-item.is c.requires)
 
 pub all_parts-parts-preserved : goal.all_parts-parts-preserved
 all_parts-parts-preserved t c =
@@ -366,7 +367,7 @@ argument-returns-in_err-pass_mark-in-Some t c =
     (same (one_argument c.args.case.now.arg _ _ (ahead c.args.cursor.now) c.in-Some.is refl) (fails _ (told _ _ _ _ c.in_err-pass_mark-in-Some.ensures)))
 
 pub argument-value-requires : goal.argument-value-requires
-argument-value-requires t c = (search (rules, shape_lemmas), rw c.get.ensures (within_argument c.args.case.now.arg _ c.in-Some.is c.requires))
+argument-value-requires t c = (search (rules, shape_lemmas), rw c.get.ensures (argument_good c.args.case.now.arg _ c.in-Some.is c.requires))
 
 pub argument-returns-in_err-value-in-Some : goal.argument-returns-in_err-value-in-Some
 argument-returns-in_err-value-in-Some t c =
