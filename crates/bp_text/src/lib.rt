@@ -16,5 +16,5 @@ mod tests;
 mod token;
 
 pub use printed_shapes::print_shape;
-pub use printed_values::{print_value, put_value};
-pub use printing::{put_decimal, put_quoted};
+pub use printed_values::{print_value, put_sexp, put_value};
+pub use printing::{put_decimal, put_natural, put_quoted};
