@@ -1,6 +1,8 @@
-// The shortest spelling of a value onto the end of a list of bytes, in one pass. The shape is
-// matched in one small function, and each shape has a function of its own that is not inlined: a
-// function clears its locals when it is entered, so that a leaf pays for its own alone.
+//! The shortest spelling of a value onto the end of a list of bytes, in one pass. The shape is
+//! matched in one small function, and each shape has a function of its own that is not inlined: a
+//! function clears its locals when it is entered, so that a leaf pays for its own alone.
+//!
+//! The parts of spellings are written within a bound on the length of the whole list.
 ghost use Rattle.std.specs.Prelude.{◌≡◌, ◌<◌, ◌≤◌, ◌^◌, ◌∷◌, ◌++◌, ℕ, List, [], length, map, OnOk, OnErr, IfErr};
 ghost use Rattle.std.specs.List.{All, flat_map};
 ghost use Rattle.bp_num.specs.Forms.{signed_bytes};
@@ -92,8 +94,9 @@ fn put_value(shape: &Shape, value: &Value, bound: u64, out: &mut Vec<u8>) -> Res
     }
 }
 
+/// Appends one byte.
 #[inline(never)]
-fn put_byte(byte: u8, bound: u64, out: &mut Vec<u8>) -> Result<(), PutError>
+pub fn put_byte(byte: u8, bound: u64, out: &mut Vec<u8>) -> Result<(), PutError>
     ensures { Puts bound (byte ∷ []) out.old.items out.new.items result }
 {
     out.push(byte)?;
@@ -137,9 +140,9 @@ fn put_numbers(values: &[Value], bound: u64, out: &mut Vec<u8>) -> Result<(), Pu
     Ok(())
 }
 
-// A length, and the bytes.
+/// Appends a length, and the bytes.
 #[inline(always)]
-fn put_bytes(bytes: &[u8], bound: u64, out: &mut Vec<u8>) -> Result<(), PutError>
+pub fn put_bytes(bytes: &[u8], bound: u64, out: &mut Vec<u8>) -> Result<(), PutError>
     ensures { Puts bound (written_bytes bytes.now) out.old.items out.new.items result }
 {
     let count = bytes.len() as u64;
@@ -317,8 +320,9 @@ fn put_any_sexp(value: &Value, bound: u64, out: &mut Vec<u8>) -> Result<(), PutE
     put_sexp(sexp_in(value), bound, out)
 }
 
+/// Appends an S-expression.
 #[cycle(sexps)]
-fn put_sexp(sexp: &Sexp, bound: u64, out: &mut Vec<u8>) -> Result<(), PutError>
+pub fn put_sexp(sexp: &Sexp, bound: u64, out: &mut Vec<u8>) -> Result<(), PutError>
     ensures { Puts bound (written_sexp sexp.now) out.old.items out.new.items result }
 {
     match sexp {

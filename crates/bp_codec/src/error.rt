@@ -37,10 +37,12 @@ impl<T: Drop> From<AllocFailed<T>> for EncodeError {
     }
 }
 
-/// Why writing stopped, with bytes of the value in the list.
-#[derive(Clone, Copy, PartialEq, Eq)]
-pub(crate) enum PutError {
+/// Why the writing of a part stopped. Some bytes of it may stand in the list.
+#[derive(Clone, Copy, Debug, PartialEq, Eq)]
+pub enum PutError {
+    /// The list would have more bytes than its bound.
     TooLong,
+    /// Memory ran out. No contract says when.
     OutOfMemory,
 }
 

@@ -5,6 +5,9 @@
 //! need be: [`decode`] reads each of them, [`encode`] writes the shortest one, and [`size`] answers
 //! its length.
 //!
+//! Who reads or writes values of a fixed shape part by part finds what these calls are made of in
+//! [`heads`], [`numbers`] and [`encoding`].
+//!
 //! The shape has to be checked, and a value that is written has to fit it, within some limit on
 //! lengths of at most 2^30: [`Shape::check`] and [`fits`] are the tests.
 //!
@@ -14,13 +17,13 @@
 
 mod contents;
 mod decoding;
-mod encoding;
+pub mod encoding;
 mod error;
 pub mod heads;
 mod held;
 mod leaves;
 mod levels;
-mod numbers;
+pub mod numbers;
 mod open;
 mod plan;
 mod reader;
@@ -32,7 +35,7 @@ mod taking;
 
 pub use decoding::{Decoded, decode};
 pub use encoding::encode;
-pub use error::EncodeError;
+pub use error::{EncodeError, PutError};
 pub use reader::Reader;
 pub use sizing::size;
 

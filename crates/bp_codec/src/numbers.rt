@@ -1,5 +1,5 @@
-// Numbers onto the end of a list of bytes, in their shortest forms. Room for the longest form is
-// made first, so that the bytes are put down one by one without a test.
+//! Numbers onto the end of a list of bytes, in their shortest forms. Room for the longest form is
+//! made first, so that the bytes are put down one by one without a test.
 ghost use Rattle.std.specs.Prelude.{◌≡◌, ◌+◌, ◌≤◌, ◌∷◌, ◌++◌, length, vec_len, vec_capacity};
 ghost use Rattle.bp_num.specs.Forms.{little_endian, written_int, written_nat};
 ghost use Rattle.bp_codec.specs.Puts.{Puts};
@@ -15,7 +15,7 @@ const WORD: usize = 4;
 
 /// Appends the shortest form of a length.
 #[inline(always)]
-pub(crate) fn put_nat(number: u64, bound: u64, out: &mut Vec<u8>) -> Result<(), PutError>
+pub fn put_nat(number: u64, bound: u64, out: &mut Vec<u8>) -> Result<(), PutError>
     ensures { Puts bound (written_nat number) out.old.items out.new.items result }
 {
     out.reserve(LONGEST)?;
@@ -42,7 +42,7 @@ fn push_wide_nat(number: u64, out: &mut Vec<u8>)
 }
 
 /// How many bytes `put_nat` appends.
-pub(crate) fn nat_len(number: u64) -> u64
+pub fn nat_len(number: u64) -> u64
     ensures { result ≡ length (written_nat number) }
 {
     match number {
@@ -55,7 +55,7 @@ pub(crate) fn nat_len(number: u64) -> u64
 
 /// Appends the shortest form of an int of any kind.
 #[inline(always)]
-pub(crate) fn put_int(number: i64, bound: u64, out: &mut Vec<u8>) -> Result<(), PutError>
+pub fn put_int(number: i64, bound: u64, out: &mut Vec<u8>) -> Result<(), PutError>
     ensures { Puts bound (written_int number) out.old.items out.new.items result }
 {
     out.reserve(LONGEST)?;
@@ -100,7 +100,7 @@ fn push_short(number: i16, out: &mut Vec<u8>)
 
 /// Appends the four bytes of a word, the lowest first.
 #[inline(always)]
-pub(crate) fn put_word(word: u32, bound: u64, out: &mut Vec<u8>) -> Result<(), PutError>
+pub fn put_word(word: u32, bound: u64, out: &mut Vec<u8>) -> Result<(), PutError>
     ensures { Puts bound (little_endian 4 word) out.old.items out.new.items result }
 {
     out.reserve(WORD)?;
