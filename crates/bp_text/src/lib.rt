@@ -27,8 +27,8 @@ mod values;
 
 pub use error::TextError;
 pub use printed_shapes::print_shape;
-pub use printed_values::{print_value, put_value};
-pub use printing::{put_decimal, put_quoted};
+pub use printed_values::{print_value, put_sexp, put_value};
+pub use printing::{put_decimal, put_natural, put_quoted};
 pub use shape_fronts::read_shape_front;
 pub use shape_texts::read_shape;
 pub use value_texts::read_value;

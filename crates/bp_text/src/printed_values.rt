@@ -50,6 +50,22 @@ pub fn put_value(shape: &Shape, value: &Value, out: &mut Vec<u8>) -> Result<(), 
     }
 }
 
+/// Appends the text of the S-expression.
+pub fn put_sexp(sexp: &Sexp, out: &mut Vec<u8>) -> Result<(), OutOfMemory>
+    ensures ok { let text = value_text form.sexp (val.Sexp sexp.now) in
+        OnOk result (out.new.items ≡ out.old.items ++ text) }
+    ensures err { OnErr result (out.new.items ≡ out.old.items) }
+{
+    let start = out.len();
+    match append_sexp(sexp, out) {
+        Ok(()) => Ok(()),
+        Err(error) => {
+            out.truncate(start);
+            Err(error)
+        }
+    }
+}
+
 #[cycle(values)]
 fn append_value(shape: &Shape, value: &Value, out: &mut Vec<u8>) -> Result<(), OutOfMemory>
     requires { IsOf (form_of shape.now) value.now }

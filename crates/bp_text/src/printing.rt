@@ -42,6 +42,21 @@ pub fn put_decimal(number: i64, out: &mut Vec<u8>) -> Result<(), OutOfMemory>
     }
 }
 
+/// Appends the number, which has no sign, in decimal.
+pub fn put_natural(number: u64, out: &mut Vec<u8>) -> Result<(), OutOfMemory>
+    ensures ok { OnOk result (out.new.items ≡ out.old.items ++ decimal number) }
+    ensures err { OnErr result (out.new.items ≡ out.old.items) }
+{
+    let start = out.len();
+    match append_digits(number, out) {
+        Ok(()) => Ok(()),
+        Err(error) => {
+            out.truncate(start);
+            Err(error)
+        }
+    }
+}
+
 pub(crate) fn append_byte(byte: u8, out: &mut Vec<u8>) -> Result<(), OutOfMemory>
     ensures { Appends (byte ∷ []) out.old.items out.new.items result }
 {

@@ -1,4 +1,4 @@
-use crate::{print_shape, print_value, put_decimal, put_quoted, put_value};
+use crate::{print_shape, print_value, put_decimal, put_natural, put_quoted, put_sexp, put_value};
 use bp_value::{Blob, Boxed, Case, Field, Listed, OutOfMemory, PolyCase, Sexp, Shape, Value, fits};
 use std::alloc::Global;
 use std::test::Fail;
@@ -279,7 +279,9 @@ fn members_of_shapes(rt: HostRuntime) -> Result<(), Fail> {
 fn leaves_are_appended(rt: HostRuntime) -> Result<(), Fail> {
     let mut out = Vec::new(rt.alloc());
     put_decimal(-7, &mut out)?;
+    put_natural(u64::MAX, &mut out)?;
     put_quoted(b"'", &mut out)?;
-    assert!(rt; out.as_slice() == br#"-7"\'""#.as_slice());
+    put_sexp(&Sexp::Atom(blob(rt.alloc(), b"a")?), &mut out)?;
+    assert!(rt; out.as_slice() == br#"-718446744073709551615"\'""a""#.as_slice());
     Ok(())
 }
