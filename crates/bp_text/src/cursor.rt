@@ -150,13 +150,14 @@ impl<'a> Cursor<'a> {
         }
     }
 
-    /// Takes the first token if `takes`: else it is at fault.
-    pub fn pass(&mut self, takes: bool) -> Result<(), Halt>
-        ensures { ReadsFrom (taken_at takes) self.old self.new result }
+    /// Takes the first token where it has a value: else it is at fault.
+    pub fn take_as<T: Drop>(&mut self, value: Option<T>) -> Result<T, Halt>
+        ensures reads { ReadsFrom (one (λ t. value) BadText) self.old self.new result }
+        ensures value { IfOk result (λ a. value ≡ Some a) }
     {
-        if takes {
+        if let Some(value) = value {
             self.take()?;
-            return Ok(());
+            return Ok(value);
         }
         match self.first() {
             Some(_) => Err(Halt::Bad),
@@ -164,21 +165,11 @@ impl<'a> Cursor<'a> {
         }
     }
 
-    /// Takes the first token where it has a value: else it is at fault.
-    pub fn take_as<T: Drop>(&mut self, value: Option<T>) -> Result<T, Halt>
-        ensures reads { ReadsFrom (one (λ t. value) BadText) self.old self.new result }
-        ensures value { IfOk result (λ a. value ≡ Some a) }
+    /// Takes the first token if `takes`: else it is at fault.
+    pub fn pass(&mut self, takes: bool) -> Result<(), Halt>
+        ensures { ReadsFrom (taken_at takes) self.old self.new result }
     {
-        match value {
-            Some(value) => {
-                self.take()?;
-                Ok(value)
-            }
-            None => {
-                self.pass(false)?;
-                Err(Halt::Bad)
-            }
-        }
+        self.take_as(takes.then_some(()))
     }
 
     /// Takes this mark.
