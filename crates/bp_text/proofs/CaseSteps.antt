@@ -15,7 +15,8 @@ use Rattle.bp_text.proofs.Readings.{gives_as, gives_past, gives_failed}
 
 -- ---- one token
 
-pub takes_one : {A : Type 0} (h : grammar.Token → Option A) (s u : List grammar.Token) (a : A) → one h BadText s ≡ whole a u → length s ≡ suc (length u)
+pub takes_one : {A : Type 0} (h : grammar.Token → Option A) (s u : List grammar.Token) (a : A) → one h BadText s ≡ whole a u → length s ≡ suc
+    (length u)
 takes_one h [] u a is = absurd cc
 takes_one {A = A} h (t ∷ s) u a is = go (h t) is
   where
@@ -39,7 +40,8 @@ module _ {A : Type 0} (sep ends : grammar.Token → Bool) (r : TokenReader A) wh
     pub maybe_failed : (e : Halt) → ReadsFrom {A = A} r mid new (Err e) → ReadsFrom {A = Option A} (maybe sep ends BadText r) old new (Err e)
     maybe_failed e reads =
         gives_past (maybe sep ends BadText r (ahead old)) old mid new (Err e) takes.0
-        (gives_as _ _ mid new (Err e) (maybe_goes (ahead old) (ahead mid) (token_of token) takes.1 is) (gives_failed (r (ahead mid)) (λ v. stop ends BadText (Some v)) mid new e reads))
+        (gives_as _ _ mid new (Err e) (maybe_goes (ahead old) (ahead mid) (token_of token) takes.1 is)
+        (gives_failed (r (ahead mid)) (λ v. stop ends BadText (Some v)) mid new e reads))
 
     pub maybe_some : (v : A) → r (ahead mid) ≡ whole v (ahead new) → maybe sep ends BadText r (ahead old) ≡ stop ends BadText (Some v) (ahead new)
     maybe_some v reads =

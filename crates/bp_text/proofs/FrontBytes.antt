@@ -145,7 +145,22 @@ bytes_of_taken (t ∷ ts) s r (first, each) (b, y, u, cut, blanks, left, inl (x,
           cut ∙ (ap (λ z. b ++ z) (parts ∙ (ap (λ z. x ++ z) rest.cut ∙ sym (append_assoc x rest.bytes r)))
           ∙ sym (append_assoc b (x ++ rest.bytes) r));
       tokens = record { token = t.token; left = length (x ++ rest.bytes) } ∷ rest.tokens;
-      lexed = (b, x ++ rest.bytes, refl, blanks, refl, inl (x, rest.bytes, refl, token, ends_part t.token rest.bytes r spelled (subst (λ z. EndsBefore t.token z) rest.cut ends), rest.lexed));
+      lexed = (
+        b,
+        x ++ rest.bytes,
+        refl,
+        blanks,
+        refl,
+        inl (
+          x,
+          rest.bytes,
+          refl,
+          token,
+          ends_part t.token rest.bytes r spelled
+              (subst (λ z. EndsBefore t.token z) rest.cut ends),
+          rest.lexed,
+        ),
+      );
       just = ap (λ z. seen t.token ∷ z) rest.just;
       closed = ap (λ o. o || has_open rest.tokens) (never_open t.token spelled) ∙ rest.closed;
       last = join_last b x rest.bytes (token_last t.token x spelled token) rest.last (some_bytes t.token x spelled token);

@@ -71,7 +71,8 @@ not_blank t x r is = let (b, s, cut, some) = token_starts t x is in subst (λ z.
 -- what stands after the blanks in front
 after_these : (b x z a : List ℕ) (t : Token) → AreBlanks b → IsToken t x → after_blanks ((b ++ (x ++ z)) ++ a) ≡ x ++ (z ++ a)
 after_these b x z a t blanks is =
-    ap after_blanks (append_assoc b (x ++ z) a ∙ ap (λ y. b ++ y) (append_assoc x z a)) ∙ blanks_only b (x ++ (z ++ a)) blanks (not_blank t x (z ++ a) is)
+    ap after_blanks (append_assoc b (x ++ z) a ∙ ap (λ y. b ++ y) (append_assoc x z a)) ∙ blanks_only b (x ++ (z ++ a)) blanks
+    (not_blank t x (z ++ a) is)
 
 three : (b x z : List ℕ) → length (b ++ (x ++ z)) ≡ length b + (length x + length z)
 three b x z = let one = length-append b (x ++ z) in let two = length-append x z in omega arith
@@ -93,12 +94,14 @@ step_end b x z d y w a c t spelled bs ds is as_ e next =
     let four = length-append w c in
     omega arith
 
-same_end : (us vs : List Stamped) (x z a c : List ℕ) → x ++ a ≡ z ++ c → Lexes us x → Lexes vs z → kinds us ≡ kinds vs → Each (Is is_spelled) (kinds us)
+same_end : (us vs : List Stamped) (x z a c : List ℕ) → x ++ a ≡ z ++ c → Lexes us x → Lexes vs z → kinds us ≡ kinds vs → Each (Is is_spelled)
+    (kinds us)
     → NoBlankLast x → NoBlankLast z → length x ≡ length z
 same_end [] [] x z a c e xs zs same each no_x no_z = ap length (no_bytes x xs no_x ∙ sym (no_bytes z zs no_z))
 same_end [] (v ∷ vs) x z a c e xs zs same each no_x no_z = absurd cc
 same_end (u ∷ us) [] x z a c e xs zs same each no_x no_z = absurd cc
-same_end (u ∷ us) (v ∷ vs) x z a c e (b, y, cut, bs, left, inr (none, stuck)) zs same each no_x no_z = absurd (never_stuck u.token y (seen_spelled u.token each.0) stuck)
+same_end (u ∷ us) (v ∷ vs) x z a c e (b, y, cut, bs, left, inr (none, stuck)) zs same each no_x no_z = absurd
+    (never_stuck u.token y (seen_spelled u.token each.0) stuck)
 same_end (u ∷ us) (v ∷ vs) x z a c e (b, y, cut, bs, left, inl (x1, x2, parts, is, ends, xs)) (d, w, cut2, ds, left2, other) same each no_x no_z =
     go (λ w2 f more no_x2 no_w2. same_end us vs x2 w2 a c f xs more (cc) each.1 no_x2 no_w2) other
   where
@@ -115,18 +118,21 @@ same_end (u ∷ us) (v ∷ vs) x z a c e (b, y, cut, bs, left, inl (x1, x2, part
     whole_x = cut ∙ ap (λ k. b ++ k) parts
 
     go : ((w2 : List ℕ) → x2 ++ a ≡ w2 ++ c → Lexes vs w2 → NoBlankLast x2 → NoBlankLast w2 → length x2 ≡ length w2)
-        → ((w1 : List ℕ) × (w2 : List ℕ) × (w ≡ w1 ++ w2) × IsToken v.token w1 × EndsBefore v.token w2 × Lexes vs w2) ⊎ ((vs ≡ []) × IsStuck v.token w) → length x ≡ length z
+        → ((w1 : List ℕ) × (w2 : List ℕ) × (w ≡ w1 ++ w2) × IsToken v.token w1 × EndsBefore v.token w2 × Lexes vs w2) ⊎
+        ((vs ≡ []) × IsStuck v.token w) → length x ≡ length z
     go rest (inr (none, stuck)) = absurd (never_stuck v.token w spelled stuck)
     go rest (inl (w1, w2, parts2, as_, ends2, zs)) =
         let whole_z : z ≡ d ++ (w1 ++ w2) = cut2 ∙ ap (λ k. d ++ k) parts2 in
         ap length whole_x
-        ∙ (step_end b x1 x2 d w1 w2 a c v.token spelled bs ds (subst (λ k. IsToken k x1) tokens is) as_ (ap (λ k. k ++ a) (sym whole_x) ∙ (e ∙ ap (λ k. k ++ c) whole_z))
+        ∙ (step_end b x1 x2 d w1 w2 a c v.token spelled bs ds (subst (λ k. IsToken k x1) tokens is) as_
+        (ap (λ k. k ++ a) (sym whole_x) ∙ (e ∙ ap (λ k. k ++ c) whole_z))
         (λ f. rest w2 f zs (rest_last b x1 x2 (subst NoBlankLast whole_x no_x)) (rest_last d w1 w2 (subst NoBlankLast whole_z no_z)))
         ∙ ap length (sym whole_z))
 
 holds_once : (s : List ℕ) (j k : ℕ) (p : List Token) → Each (Is is_spelled) p → HoldsJust s j p → HoldsJust s k p → j ≡ k
 holds_once s j k p each one two =
-    let same = same_end one.tokens two.tokens (take j s) (take k s) (drop j s) (drop k s) (take-append-drop j s ∙ sym (take-append-drop k s)) one.lexed two.lexed
+    let same = same_end one.tokens two.tokens (take j s) (take k s) (drop j s) (drop k s)
+    (take-append-drop j s ∙ sym (take-append-drop k s)) one.lexed two.lexed
     (one.just ∙ sym two.just) (subst (λ z. Each (Is is_spelled) z) (sym one.just) each) one.last two.last in
     let js = length-take-le j s one.within in
     let ks = length-take-le k s two.within in
@@ -142,7 +148,8 @@ front_once s a b j k one two =
     let all = lexes_once one.all two.all s one.lexed two.lexed in
     let read : ◌≡◌ {A = Outcome Token Why Shape} (whole a one.left) (whole b two.left) =
     sym (longest_here s a j one) ∙ (ap (λ ts. shape_front_at (kinds ts)) all ∙ longest_here s b k two) in
-    let (taken, left) = one_front (Is ends_shape) IsShapeTokens IsShapeFault shape_at right_shape (kinds one.all) one.taken one.left two.taken two.left one.longest
+    let (taken, left) = one_front (Is ends_shape) IsShapeTokens IsShapeFault shape_at right_shape
+    (kinds one.all) one.taken one.left two.taken two.left one.longest
     (subst (λ ts. IsLongestFront IsShapeTokens (kinds ts) two.taken two.left) (sym all) two.longest) in
     (cc, holds_once s j k one.taken (shape_spelled a one.taken one.spelled) one.place (subst (λ p. HoldsJust s k p) (sym taken) two.place))
 
@@ -153,7 +160,8 @@ closed_by (t ∷ ts) each = ap (λ o. o || has_open ts) (never_open t.token (see
 pub front_none_there : (s : List ℕ) (a : Shape) (j k : ℕ) (w : Why) → IsShapeFront s a j → IsNoShapeFront s k w → ⊥
 front_none_there s a j k w of (inl (wrong, none)) =
     let all = lexes_once of.all (wrong.before ++ wrong.wrong ∷ wrong.behind) s of.lexed wrong.lexed in
-    let cut : kinds of.all ≡ kinds wrong.before ++ seen wrong.wrong.token ∷ kinds wrong.behind = ap kinds all ∙ kinds_join wrong.before (wrong.wrong ∷ wrong.behind) in
+    let cut : kinds of.all ≡ kinds wrong.before ++ seen wrong.wrong.token ∷ kinds wrong.behind = ap kinds all ∙ kinds_join wrong.before
+    (wrong.wrong ∷ wrong.behind) in
     let (taken, left) = one_front (Is ends_shape) IsShapeTokens IsShapeFault shape_at right_shape (kinds of.all) of.taken of.left (kinds wrong.before)
     (seen wrong.wrong.token ∷ kinds wrong.behind) of.longest
     (record {
@@ -165,8 +173,14 @@ front_none_there s a j k w of (inl (wrong, none)) =
     none a (subst (λ p. IsShapeTokens a p) taken of.spelled)
 front_none_there s a j k w of (inr (place, why, short)) =
     let all = lexes_once of.all short.tokens s of.lexed short.lexed in
-    let (taken, left) = one_front (Is ends_shape) IsShapeTokens IsShapeFault shape_at right_shape (kinds of.all) of.taken of.left (kinds of.all) [] of.longest
-    (record { cut = sym (append-nil (kinds of.all)); front = subst (λ ts. Front IsShapeTokens (kinds ts)) (sym all) short.front; longest = λ b x same f. cc }) in
+    let (taken, left) = one_front (Is ends_shape) IsShapeTokens IsShapeFault shape_at right_shape (kinds of.all) of.taken of.left
+    (kinds of.all) [] of.longest
+    (record {
+      cut = sym (append-nil (kinds of.all));
+      front = subst (λ ts. Front IsShapeTokens (kinds ts))
+          (sym all) short.front;
+      longest = λ b x same f. cc;
+    }) in
     let whole_text : IsShapeTokens a (kinds short.tokens) = subst (λ p. IsShapeTokens a p) (taken ∙ ap kinds all) of.spelled in
     short.unfinished a (closed_by short.tokens (shape_spelled a (kinds short.tokens) whole_text)) whole_text
 

@@ -80,7 +80,8 @@ module _ (old new : Unread) (goes : Advances old new) where
     before_it = (same_cut taken_tokens p (ahead new) (b ∷ v) (sym parts ∙ fault.place) fault.left).0
 
     bytes : AreBytes goes.taken old.rest new.rest
-    bytes = bytes_of_taken goes.taken old.rest new.rest (subst (λ z. Each (Is is_spelled) z) (sym before_it) (front_spelled p fault.front)) goes.passes
+    bytes = bytes_of_taken goes.taken old.rest new.rest (subst (λ z. Each (Is is_spelled) z) (sym before_it)
+        (front_spelled p fault.front)) goes.passes
 
     -- the tokens before it are the text of a shape
     text_before : (a : Shape) → IsShapeTokens a taken_tokens → IsShapeText a (take used old.rest)
@@ -93,7 +94,8 @@ module _ (old new : Unread) (goes : Advances old new) where
 
     before_text : (a : Shape) → IsShapeText a (take used old.rest) → IsShapeTokens a taken_tokens
     before_text a text =
-        let same = lexes_once text.tokens bytes.tokens bytes.bytes (subst (λ z. Lexes text.tokens z) (front_bytes goes.taken old.rest new.rest bytes) text.lexed) bytes.lexed in
+        let same = lexes_once text.tokens bytes.tokens bytes.bytes
+        (subst (λ z. Lexes text.tokens z) (front_bytes goes.taken old.rest new.rest bytes) text.lexed) bytes.lexed in
         subst (λ z. IsShapeTokens a z) (ap kinds same ∙ bytes.just) text.spelled
 
     reread : (a : Shape) → IsShapeTokens a taken_tokens → shape_front_at (ahead old) ≡ whole a (ahead new)
@@ -118,7 +120,8 @@ module _ (old new : Unread) (goes : Advances old new) where
     no_front_here none [] left = absurd (omega (arith, fault.left, ap (λ z. length (kinds z)) left))
     no_front_here none (u ∷ us) left =
         let here = subst (λ z. FaultAt IsShapeTokens (ahead old) p b v (length (kinds z))) left fault in
-        let (wrong, same, cut) = wrong_at IsShapeTokens IsShapeFault old.rest w goes.taken u us (goes_lex old new goes ∙ ap (λ z. goes.taken ++ z) left) p b v here why in
+        let (wrong, same, cut) = wrong_at IsShapeTokens IsShapeFault old.rest w goes.taken u us
+        (goes_lex old new goes ∙ ap (λ z. goes.taken ++ z) left) p b v here why in
         inl (wrong, λ a l. none a (text_before a (subst (λ z. IsShapeTokens a (kinds z)) same l)))
 
   module _ (w : Why) (is : shape_at (ahead old) ≡ bad (length (ahead new)) w) where

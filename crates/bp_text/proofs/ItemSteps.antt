@@ -8,39 +8,50 @@ use Rattle.readers.proofs.Loops.{onward, mapped_after, rests_go_on, rests_end, r
 use Rattle.bp_text_grammar.specs.Tokens.{Token}
 use Rattle.bp_text_grammar.specs.Texts.{Why, BadText, is_mark, when, onto_at}
 use Rattle.bp_text.specs.declared.halt.Halt.{Halt}
-use Rattle.bp_text.specs.Items.{closing}
+use Rattle.bp_text.specs.Items.{closing, ReadsUpTo}
 use Rattle.bp_text.specs.Unread.{Unread, ahead, Advances, ReadsFrom}
-use Rattle.bp_text.proofs.Ahead.{goes_join}
+use Rattle.bp_text.proofs.Ahead.{goes_none, goes_join}
 use Rattle.bp_text.specs.Leaves.{TokenReader}
 use Rattle.bp_text.proofs.Readings.{gives_as, gives_past, gives_failed}
 use Rattle.bp_text.proofs.Turns.{no_more_ahead}
 use Rattle.bp_text.proofs.CaseSteps.{takes_one}
 
+-- what is read after some items, as what is read of all
+abbrev pub gives_all : {A : Type 0} → List A → List Token → Outcome Token Why (List A)
+gives_all vs u = whole vs u
+
 -- the items so far, and what is read of an item and of those after it, are what is read of all
-abbrev pub Going : {A : Type 0} → TokenReader A → TokenReader (List A) → List A → List Token
-    → Outcome Token Why (List A) → Type 0
-Going r next front s total = after (r s) (λ v u. onward (λ vs x. whole vs x) (front ++ v ∷ []) (next u)) ≡ total
+pub record Looping {A : Type 0} (r : TokenReader A) (next total : TokenReader (List A)) (start now : Unread) (items : List A) : Type 0 where
+  pub goes : Advances start now
+  pub going : after (r (ahead now)) (λ v u. onward gives_all (items ++ v ∷ []) (next u)) ≡ total (ahead start)
 
 -- the same before what stands after an item
-abbrev pub Between : {A : Type 0} → TokenReader (List A) → List A → List Token → Outcome Token Why (List A) → Type 0
-Between next front u total = onward (λ vs x. whole vs x) front (next u) ≡ total
+pub record Standing {A : Type 0} (next total : TokenReader (List A)) (start now : Unread) (items : List A) : Type 0 where
+  pub goes : Advances start now
+  pub between : onward gives_all items (next (ahead now)) ≡ total (ahead start)
 
-pub items_start : {A : Type 0} (r : List Token → Outcome Token Why A) (next : List Token → Outcome Token Why (List A)) (s : List Token)
-    → Going r next [] s (onto_at r next s)
-items_start r next s = after_same (r s) _ _ (λ v u is. sym (mapped_after (next u) (λ vs. v ∷ vs)))
+pub loop_starts : {A : Type 0} (r : TokenReader A) (next : TokenReader (List A)) (c : Unread) (items : List A) → items ≡ []
+    → Looping r next (onto_at r next) c c items
+loop_starts r next c items none = subst (λ vs. Looping r next (onto_at r next) c c vs) (sym none) (record {
+  goes = goes_none c;
+  going = after_same (r (ahead c)) _ _ (λ v u is. sym (mapped_after (next u) (λ vs. v ∷ vs)));
+})
 
--- an item is read
-pub items_read : {A : Type 0} (r : TokenReader A) (next : TokenReader (List A)) (front : List A) (s u : List Token) (v : A)
-    (total : Outcome Token Why (List A)) → r s ≡ whole v u → Going r next front s total → Between next (front ++ v ∷ []) u total
-items_read r next front s u v total is going = sym (ap (λ o. after o (λ v u. onward (λ vs x. whole vs x) (front ++ v ∷ []) (next u))) is) ∙ going
+module _ {A : Type 0} {r : TokenReader A} {next total : TokenReader (List A)} {start now : Unread} {items : List A}
+    (loop : Looping r next total start now items) (new : Unread) where
+  -- an item is read, and put to the others
+  pub item_read : (v : A) (more_items : List A) → ReadsFrom {A = A} r now new (Ok v) → more_items ≡ items ++ v ∷ []
+      → Standing next total start new more_items
+  item_read v more_items (on, is) pushed = subst (λ vs. Standing next total start new vs) (sym pushed) (record {
+    goes = goes_join start now new loop.goes on;
+    between = sym (ap (λ o. after o (λ w u. onward gives_all (items ++ w ∷ []) (next u))) is) ∙ loop.going;
+  })
 
--- none is read
-pub items_failed : {A : Type 0} (r : TokenReader A) (next total : TokenReader (List A)) (front : List A) (start old new : Unread) (e : Halt)
-    → Advances start old → Going r next front (ahead old) (total (ahead start)) → ReadsFrom {A = A} r old new (Err e)
-    → ReadsFrom {A = List A} total start new (Err e)
-items_failed {A = A} r next total front start old new e goes going is =
-    gives_past (total (ahead start)) start old new (Err e) goes
-    (gives_as _ _ old new (Err e) (sym going) (gives_failed (r (ahead old)) (λ v u. onward (λ vs x. whole vs x) (front ++ v ∷ []) (next u)) old new e is))
+  -- none is read
+  pub item_failed : (e : Halt) → ReadsFrom {A = A} r now new (Err e) → ReadsFrom {A = List A} total start new (Err e)
+  item_failed e is =
+      gives_past (total (ahead start)) start now new (Err e) loop.goes
+      (gives_as _ _ now new (Err e) (sym loop.going) (gives_failed (r (ahead now)) (λ v u. onward gives_all (items ++ v ∷ []) (next u)) now new e is))
 
 -- ---- up to a closing mark
 
@@ -52,13 +63,14 @@ module _ {A : Type 0} (sep close : ℕ) (E : Token → Type 0) (L : A → List T
   -- what the mark after an item says
   abbrev after_mark : Bool → List Token → Outcome Token Why (List A)
   after_mark true w = whole front w
-  after_mark false w = after (r w) (λ v u. onward (λ vs x. whole vs x) (front ++ v ∷ []) (items_at sep close r u))
+  after_mark false w = after (r w) (λ v u. onward gives_all (front ++ v ∷ []) (items_at sep close r u))
 
-  by_mark : (u : List Token) → onward (λ vs x. whole vs x) front (items_at sep close r u) ≡ after (one (closing sep close) BadText u) after_mark
-  by_mark [] = rests_done r (λ vs x. whole vs x) front (is_mark sep) (is_mark close) BadText (length {A = Token} [])
+  by_mark : (u : List Token) → onward gives_all front (items_at sep close r u) ≡ after (one (closing sep close) BadText u) after_mark
+  by_mark [] = rests_done r gives_all front (is_mark sep) (is_mark close) BadText (length {A = Token} [])
   by_mark (c ∷ u) = elim (is_or (is_mark close c)) [
-    | inl e ↦ rests_end r (λ vs x. whole vs x) front (is_mark sep) (is_mark close) BadText (length (c ∷ u)) c u e
-        ∙ sym (ap (λ o. after (leaf o (length (c ∷ u)) BadText u) after_mark) (pick_true (is_mark close c) (Some true) (when (is_mark sep c) false) e))
+    | inl e ↦ rests_end r gives_all front (is_mark sep) (is_mark close) BadText (length (c ∷ u)) c u e
+        ∙ sym (ap (λ o. after (leaf o (length (c ∷ u)) BadText u) after_mark)
+        (pick_true (is_mark close c) (Some true) (when (is_mark sep c) false) e))
     | inr e ↦ goes e (is_or (is_mark sep c))
   ]
     where
@@ -66,78 +78,70 @@ module _ {A : Type 0} (sep close : ℕ) (E : Token → Type 0) (L : A → List T
       said e = pick_false (is_mark close c) (Some true) (when (is_mark sep c) false) e
 
       goes : is_mark close c ≡ false → (is_mark sep c ≡ true) ⊎ (is_mark sep c ≡ false)
-          → onward (λ vs x. whole vs x) front (items_at sep close r (c ∷ u)) ≡ after (one (closing sep close) BadText (c ∷ u)) after_mark
+          → onward gives_all front (items_at sep close r (c ∷ u)) ≡ after (one (closing sep close) BadText (c ∷ u)) after_mark
       goes e (inl d) =
-          rests_go_on Any E L Plain r right (λ vs x. whole vs x) front (is_mark sep) (is_mark close) BadText c u (each-any u) e d
+          rests_go_on Any E L Plain r right gives_all front (is_mark sep) (is_mark close) BadText c u (each-any u) e d
           ∙ sym (ap (λ o. after (leaf o (length (c ∷ u)) BadText u) after_mark) (said e ∙ pick_true (is_mark sep c) (Some false) None d))
       goes e (inr d) =
-          rests_other r (λ vs x. whole vs x) front (is_mark sep) (is_mark close) BadText (length (c ∷ u)) c u e d
+          rests_other r gives_all front (is_mark sep) (is_mark close) BadText (length (c ∷ u)) c u e d
           ∙ sym (ap (λ o. after (leaf o (length (c ∷ u)) BadText u) after_mark) (said e ∙ pick_false (is_mark sep c) (Some false) None d))
 
-  -- the list closes; it goes on
-  pub items_closed : (u w : List Token) (total : Outcome Token Why (List A)) → one (closing sep close) BadText u ≡ whole true w
-      → Between (items_at sep close r) front u total → total ≡ whole front w
-  items_closed u w total is between = sym between ∙ (by_mark u ∙ ap (λ o. after o after_mark) is)
-
-  pub items_go : (u w : List Token) (total : Outcome Token Why (List A)) → one (closing sep close) BadText u ≡ whole false w
-      → Between (items_at sep close r) front u total → Going r (items_at sep close r) front w total
-  items_go u w total is between = sym (ap (λ o. after o after_mark) is) ∙ (sym (by_mark u) ∙ between)
-
-  -- neither is there
-  pub items_ended : (total : TokenReader (List A)) (start old new : Unread) (e : Halt) → Advances start old
-      → Between (items_at sep close r) front (ahead old) (total (ahead start)) → ReadsFrom {A = Bool} (one (closing sep close) BadText) old new (Err e)
-      → ReadsFrom {A = List A} total start new (Err e)
-  items_ended total start old new e goes between is =
-      gives_past (total (ahead start)) start old new (Err e) goes
-      (gives_as _ _ old new (Err e) (sym between ∙ by_mark (ahead old)) (gives_failed (one (closing sep close) BadText (ahead old)) after_mark old new e is))
-
+  -- a list in which an item may be followed by what is looked at later, the marks among it
   abbrev item_then : A → TokenReader (List A)
-  item_then v u = onward (λ vs x. whole vs x) (front ++ v ∷ []) (items_at sep close r u)
+  item_then v u = onward gives_all (front ++ v ∷ []) (items_at sep close r u)
 
-  -- an item was read but for what may follow it, and the marks are among that
-  pub items_up : (ends : Token → Bool) → ((c : Token) → ends c ≡ false → (is_mark close c ≡ false) × (is_mark sep c ≡ false))
-      → (s u : List Token) (v : A) (total : Outcome Token Why (List A)) → r s ≡ stop ends BadText v u
-      → Going r (items_at sep close r) front s total → Between (items_at sep close r) (front ++ v ∷ []) u total
-  items_up ends apart s u v total is going =
-      sym (stopped u) ∙ (sym (ap (λ o. after o item_then) is) ∙ going)
-    where
-      stopped : (u : List Token) → after (stop ends BadText v u) item_then ≡ item_then v u
-      stopped [] = refl
-      stopped (c ∷ u) = elim (is_or (ends c)) [
-        | inl e ↦ ap (λ o. after o item_then) (pick_true (ends c) (whole v (c ∷ u)) (bad (length (c ∷ u)) BadText) e)
-        | inr e ↦ let (no_close, no_sep) = apart c e in
-            ap (λ o. after o item_then) (pick_false (ends c) (whole v (c ∷ u)) (bad (length (c ∷ u)) BadText) e)
-            ∙ sym (rests_other r (λ vs x. whole vs x) (front ++ v ∷ []) (is_mark sep) (is_mark close) BadText (length (c ∷ u)) c u no_close no_sep)
-      ]
+  pub up_to_mark : (ends : Token → Bool) → ((c : Token) → ends c ≡ false → (is_mark close c ≡ false) × (is_mark sep c ≡ false))
+      → (v : A) (u : List Token) → after (stop ends BadText v u) item_then ≡ item_then v u
+  up_to_mark ends apart v [] = refl
+  up_to_mark ends apart v (c ∷ u) = elim (is_or (ends c)) [
+    | inl e ↦ ap (λ o. after o item_then) (pick_true (ends c) (whole v (c ∷ u)) (bad (length (c ∷ u)) BadText) e)
+    | inr e ↦ let (no_close, no_sep) = apart c e in
+        ap (λ o. after o item_then) (pick_false (ends c) (whole v (c ∷ u)) (bad (length (c ∷ u)) BadText) e)
+        ∙ sym (rests_other r gives_all (front ++ v ∷ []) (is_mark sep) (is_mark close) BadText (length (c ∷ u)) c u no_close no_sep)
+  ]
 
--- ---- one turn: an item was read from `old` to `mid` and put to the others, and what stands after it was looked at
+-- ---- one turn of such a list
 
-module _ {A : Type 0} (sep close : ℕ) (E : Token → Type 0) (L : A → List Token → Type 0) (r : TokenReader A) (right : Right Any E L Plain r)
-    (total : TokenReader (List A)) (start old mid new : Unread) (front items : List A) (v : A) (pushed : items ≡ front ++ v ∷ [])
-    (goes : Advances start old) (on : Advances old mid)
-    (between : Between (items_at sep close r) (front ++ v ∷ []) (ahead mid) (total (ahead start))) where
-  abbrev after_item : Between (items_at sep close r) items (ahead mid) (total (ahead start))
-  after_item = subst (λ vs. Between (items_at sep close r) vs (ahead mid) (total (ahead start))) (sym pushed) between
+module _ {A : Type 0} (sep close : ℕ) {E : Token → Type 0} {L : A → List Token → Type 0} {r : TokenReader A} (right : Right Any E L Plain r)
+    {total : TokenReader (List A)} {start now : Unread} {items : List A} (new : Unread) where
+  -- an item is read but for what may follow it
+  pub item_up : (ends : Token → Bool) → ((c : Token) → ends c ≡ false → (is_mark close c ≡ false) × (is_mark sep c ≡ false))
+      → Looping r (items_at sep close r) total start now items → (v : A) (more_items : List A)
+      → ReadsUpTo {A = A} ends r now new (Ok v) → more_items ≡ items ++ v ∷ [] → Standing (items_at sep close r) total start new more_items
+  item_up ends apart loop v more_items (on, is) pushed = subst (λ vs. Standing (items_at sep close r) total start new vs) (sym pushed) (record {
+    goes = goes_join start now new loop.goes on;
+    between =
+        sym (up_to_mark sep close E L r right items ends apart v (ahead new))
+        ∙ (sym (ap (λ o. after o (λ w u. onward gives_all (items ++ w ∷ []) (items_at sep close r u))) is) ∙ loop.going);
+  })
 
-  pub turn_ended : (e : Halt) → ReadsFrom {A = Bool} (one (closing sep close) BadText) mid new (Err e) → ReadsFrom {A = List A} total start new (Err e)
-  turn_ended e is = items_ended sep close E L r right items total start mid new e (goes_join start old mid goes on) after_item is
+  module _ (standing : Standing (items_at sep close r) total start now items) where
+    -- neither mark is there
+    pub loop_ended : (e : Halt) → ReadsFrom {A = Bool} (one (closing sep close) BadText) now new (Err e) → ReadsFrom {A = List A} total start new
+        (Err e)
+    loop_ended e is =
+        gives_past (total (ahead start)) start now new (Err e) standing.goes
+        (gives_as _ _ now new (Err e) (sym standing.between ∙ by_mark sep close E L r right items (ahead now))
+        (gives_failed (one (closing sep close) BadText (ahead now)) (after_mark sep close E L r right items) now new e is))
 
-  module _ (b : Bool) (is : ReadsFrom (one (closing sep close) BadText) mid new (Ok b)) where
-    turn_goes : Advances start new
-    turn_goes = goes_join start mid new (goes_join start old mid goes on) is.0
+    module _ (b : Bool) (is : ReadsFrom {A = Bool} (one (closing sep close) BadText) now new (Ok b)) where
+      marked : (d : Bool) → b ≡ d → total (ahead start) ≡ after_mark sep close E L r right items d (ahead new)
+      marked d e =
+          sym standing.between
+          ∙ (by_mark sep close E L r right items (ahead now)
+          ∙ ap (λ o. after o (after_mark sep close E L r right items)) (is.1 ∙ ap (λ x. whole x (ahead new)) e))
 
-    said : (d : Bool) → b ≡ d → one (closing sep close) BadText (ahead mid) ≡ whole d (ahead new)
-    said d e = is.1 ∙ ap (λ x. whole x (ahead new)) e
+      -- the list closes; it goes on
+      pub loop_closed : (listed : List A) → b ≡ true → listed ≡ items → ReadsFrom {A = List A} total start new (Ok listed)
+      loop_closed listed closes list = (goes_join start now new standing.goes is.0, marked true closes ∙ ap (λ vs. whole vs (ahead new)) (sym list))
 
-    pub turn_closed : (listed : List A) → b ≡ true → listed ≡ items → ReadsFrom {A = List A} total start new (Ok listed)
-    turn_closed listed closes list =
-        (turn_goes, items_closed sep close E L r right items (ahead mid) (ahead new) (total (ahead start)) (said true closes) after_item ∙ ap (λ vs. whole vs (ahead new)) (sym list))
+      pub loop_on : b ≡ false → Looping r (items_at sep close r) total start new items
+      loop_on on = record { goes = goes_join start now new standing.goes is.0; going = sym (marked false on) }
 
-    pub turn_on : b ≡ false → Advances start new × Going r (items_at sep close r) items (ahead new) (total (ahead start))
-    turn_on goes_on = (turn_goes, items_go sep close E L r right items (ahead mid) (ahead new) (total (ahead start)) (said false goes_on) after_item)
-
-    pub turn_less : length (ahead new) < length (ahead old)
-    turn_less =
-        let one_token = takes_one (closing sep close) (ahead mid) (ahead new) b is.1 in
-        let no_more = no_more_ahead old mid on in
-        omega arith
+-- a mark is taken at least
+pub loop_less : (sep close : ℕ) (now mid new : Unread) (b : Bool) → Advances now mid
+    → ReadsFrom {A = Bool} (one (closing sep close) BadText) mid new (Ok b) → length (ahead new) < length (ahead now)
+loop_less sep close now mid new b on is =
+    let one_token = takes_one (closing sep close) (ahead mid) (ahead new) b is.1 in
+    let no_more = no_more_ahead now mid on in
+    omega arith

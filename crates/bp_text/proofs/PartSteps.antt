@@ -29,7 +29,8 @@ leaf_looked h old new token t us a looked is takes =
 pub name_is : (w : List ℕ) → length w ≤ 64 → name_of (grammar.Word w) ≡ Some w
 name_is w le = pick_true (nat_le (length w) 64) (Some w) None (grind arith)
 
-pub base_taken : (old new : Unread) (token : Token) (t : grammar.Token) (us : List grammar.Token) (a : Shape) → ahead old ≡ t ∷ us → base_of t ≡ Some a
+pub base_taken : (old new : Unread) (token : Token) (t : grammar.Token) (us : List grammar.Token) (a : Shape) → ahead old ≡ t ∷ us
+    → base_of t ≡ Some a
     → TakesFirst old new (Ok token) → ReadsFrom base_word_at old new (Ok a)
 base_taken old new token t us a looked is takes =
     (takes.0, ap base_word_at takes.1 ∙ ap (λ o. leaf o (length (token_of token ∷ ahead new)) (base_why (token_of token)) (ahead new)) same_base)

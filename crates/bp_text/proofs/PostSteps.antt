@@ -21,7 +21,8 @@ posts_end shape zero (t ∷ s) total none posting = sym posting ∙ ap (mapped (
 posts_end shape (suc n) (t ∷ s) total none posting = sym posting ∙ ap (mapped (λ ws. posted shape ws)) (pick_false (is_post t) _ _ none)
 
 -- one word too many
-pub posts_past : (shape : Shape) (n : ℕ) (s : List Token) (total : Outcome Token Why Shape) → n ≡ 0 → is_first is_post s ≡ true → Posting shape n s total
+pub posts_past : (shape : Shape) (n : ℕ) (s : List Token) (total : Outcome Token Why Shape) → n ≡ 0 → is_first is_post s ≡ true
+    → Posting shape n s total
     → total ≡ bad (length s) BadText
 posts_past shape n [] total none some posting = absurd cc
 posts_past shape zero (t ∷ s) total none some posting = sym posting ∙ ap (mapped (λ ws. posted shape ws)) (pick_true (is_post t) _ _ some)

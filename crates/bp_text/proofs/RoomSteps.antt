@@ -1,17 +1,20 @@
 -- Bases by the brackets that may still be opened, and the readers of what stands in them.
-use Rattle.std.proofs.Common.{◌≡◌, ◌≢◌, refl, sym, ap, ◌∙◌, subst, ℕ, zero, suc, ◌-◌, true, false, not, ◌||◌, List, [], ◌∷◌, length, inl, inr, arith}
+use Rattle.std.proofs.Common.{◌≡◌, ◌≢◌, refl, sym, ap, ◌∙◌, ℕ, zero, suc, ◌-◌, true, false, not, ◌||◌, List, [], ◌∷◌, length, Ok, inl, inr, arith}
 use Rattle.readers.specs.Reader.{Outcome, whole, Any, Follows, Is, IsNot, Right, Plain, branch}
 use Rattle.readers.proofs.Readers.{each-any}
 use Rattle.readers.proofs.Leaves.{is_or}
-use Rattle.readers.proofs.Loops.{others_go_on, others_end, others_done}
+use Rattle.readers.proofs.Loops.{onward, others_go_on, others_end, others_done}
 use Rattle.bp_value.specs.declared.shape.Shape.{Shape}
 use Rattle.bp_text_grammar.specs.Tokens.{Token, Word, Number, Big, Text, Char, Mark, Wrong, OpenText, OpenChar}
 use Rattle.bp_text_grammar.specs.Texts.{Why, BadText, round_open, curly_open, square_open, bar, square_close, is_mark}
-use Rattle.bp_text_grammar.specs.ShapeTexts.{is_star, is_post, ends_shape, ends_case, IsPart, IsField, IsSumCase, IsPolyCase, IsBase, base_word_at, part_at, more_factors_at, field_at, sum_case_at, poly_case_at, round_at, curly_at, square_at, base_at}
+use Rattle.bp_text_grammar.specs.ShapeTexts.{is_star, is_post, ends_shape, ends_case, IsPart, IsField, IsSumCase, IsPolyCase, IsBase, base_word_at, part_at, more_factors_at, factors_at, field_at, sum_case_at, poly_case_at, round_at, curly_at, square_at, base_at}
 use Rattle.bp_text_grammar.proofs.RightShapes.{base_text, base_reads, part_reads, field_reads, sum_case_reads, poly_case_reads}
-use Rattle.bp_text.specs.Unread.{is_first}
+use Rattle.bp_text.specs.declared.token.Token.{Token as Token_}
+use Rattle.bp_text.specs.Given.{token_of}
+use Rattle.bp_text.specs.Unread.{Unread, ahead, is_first, ReadsFrom, TakesFirst}
+use Rattle.bp_text.proofs.Ahead.{goes_join}
 use Rattle.bp_text.proofs.Readings.{branch_is, branch_not}
-use Rattle.bp_text.proofs.ItemSteps.{Going, Between}
+use Rattle.bp_text.proofs.ItemSteps.{gives_all, Looping, Standing}
 
 -- ---- by the first token
 
@@ -101,20 +104,30 @@ ends_by t e d = ap (λ b. not (b || is_post t)) e ∙ ap not d
 part_leaves : (room : ℕ) (s u : List Token) (v : Shape) → part_at (base_at room) s ≡ whole v u → Follows (IsNot is_post) u
 part_leaves room s u v is = let (t, cut, l, f) = (right_part room).sound s v u (each-any s) is in f
 
-pub factors_end : (room : ℕ) (front : List Shape) (s u : List Token) (v : Shape) (total : Outcome Token Why (List Shape))
-    → part_at (base_at room) s ≡ whole v u → is_first is_star u ≡ false → Between (more_factors_at (base_at room)) front u total → total ≡ whole front u
-factors_end room front s u v total is other between = go u (part_leaves room s u v is) other between
-  where
-    go : (u : List Token) → Follows (IsNot is_post) u → is_first is_star u ≡ false → Between (more_factors_at (base_at room)) front u total → total ≡ whole front u
-    go [] f o b = sym b ∙ others_done (part_at (base_at room)) (λ vs x. whole vs x) front is_star ends_shape BadText (length {A = Token} [])
-    go (c ∷ u) f o b = sym b ∙ others_end (part_at (base_at room)) (λ vs x. whole vs x) front is_star ends_shape BadText (length (c ∷ u)) c u o (ends_by c o f)
+module _ (room : ℕ) {start now : Unread} {factors : List Shape} where
+  pub factors_end : (before : Unread) (v : Shape) (listed : List Shape) → ReadsFrom {A = Shape} (part_at (base_at room)) before now (Ok v)
+      → is_first is_star (ahead now) ≡ false → Standing (more_factors_at (base_at room)) (factors_at (base_at room)) start now factors
+      → listed ≡ factors
+      → ReadsFrom {A = List Shape} (factors_at (base_at room)) start now (Ok listed)
+  factors_end before v listed reads other standing list = (
+    standing.goes,
+    go (ahead now) (part_leaves room (ahead before) (ahead now) v reads.1) other (sym standing.between) ∙ ap
+        (λ vs. whole vs (ahead now)) (sym list),
+  )
+    where
+      go : {total : Outcome Token Why (List Shape)} (u : List Token) → Follows (IsNot is_post) u → is_first is_star u ≡ false
+          → total ≡ onward gives_all factors ((more_factors_at (base_at room)) u) → total ≡ whole factors u
+      go [] f o b = b ∙ others_done (part_at (base_at room)) gives_all factors is_star ends_shape BadText (length {A = Token} [])
+      go (c ∷ u) f o b = b ∙ others_end (part_at (base_at room)) gives_all factors is_star ends_shape BadText (length (c ∷ u)) c u o (ends_by c o f)
 
-pub factors_go : (room : ℕ) (front : List Shape) (s u : List Token) (t : Token) (total : Outcome Token Why (List Shape)) → s ≡ t ∷ u
-    → is_first is_star s ≡ true → Between (more_factors_at (base_at room)) front s total
-    → Going (part_at (base_at room)) (more_factors_at (base_at room)) front u total
-factors_go room front [] u t total cut is between = absurd cc
-factors_go room front (c ∷ s) u t total cut is between =
-    let su : s ≡ u = cc in
-    subst (λ x. Going (part_at (base_at room)) (more_factors_at (base_at room)) front x total) su
-    (sym (others_go_on Any (IsNot is_post) (IsPart (IsBase room)) Plain (part_at (base_at room)) (right_part room) (λ vs x. whole vs x) front is_star ends_shape BadText c s (each-any s) is)
-    ∙ between)
+  pub factors_go : (new : Unread) (token : Token_) → is_first is_star (ahead now) ≡ true → TakesFirst now new (Ok token)
+      → Standing (more_factors_at (base_at room)) (factors_at (base_at room)) start now factors → Looping (part_at (base_at room))
+      (more_factors_at (base_at room)) (factors_at (base_at room)) start new factors
+  factors_go new token is (goes, cut) standing = record {
+    goes = goes_join start now new standing.goes goes;
+    going =
+        sym (others_go_on Any (IsNot is_post) (IsPart (IsBase room)) Plain (part_at (base_at room))
+        (right_part room) gives_all factors is_star ends_shape BadText
+        (token_of token) (ahead new) (each-any (ahead new)) (sym (ap (is_first is_star) cut) ∙ is))
+        ∙ (sym (ap (λ s. onward gives_all factors ((more_factors_at (base_at room)) s)) cut) ∙ standing.between);
+  }

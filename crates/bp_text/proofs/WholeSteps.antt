@@ -24,10 +24,12 @@ none_seen : (ts : List Stamped) → kinds ts ≡ [] → ts ≡ []
 none_seen [] e = refl
 none_seen (t ∷ ts) e = absurd cc
 
-module _ {A : Type 0} (L : A → List Token → Type 0) (R : List Token → Token → Why → Type 0) (r : TokenReader A) (right : Right Any Never (Ended L) R r)
+module _ {A : Type 0} (L : A → List Token → Type 0) (R : List Token → Token → Why → Type 0) (r : TokenReader A)
+    (right : Right Any Never (Ended L) R r)
     (old new : Unread) where
   -- a value was read, and no token is left
-  module _ (a : A) (is : ReadsFrom {A = A} r old new (Ok a)) (opens : old.opens ≡ has_open (lex old.rest)) (open_now : Bool) (tells : lex new.rest ≡ [] → open_now ≡ new.opens) where
+  module _ (a : A) (is : ReadsFrom {A = A} r old new (Ok a)) (opens : old.opens ≡ has_open (lex old.rest)) (open_now : Bool)
+      (tells : lex new.rest ≡ [] → open_now ≡ new.opens) where
     open_is : open_now ≡ has_open (lex old.rest)
     open_is = tells (none_seen (lex new.rest) (read_all L R r right (ahead old) (ahead new) a is.1).0) ∙ (is.0.opens ∙ opens)
 
@@ -38,7 +40,8 @@ module _ {A : Type 0} (L : A → List Token → Type 0) (R : List Token → Toke
     got_open opened = text_open L R r right old.rest (ahead new) a is.1 (sym open_is ∙ opened)
 
   -- the first token that is left is at fault
-  bad_here : (w : Why) → Advances old new → r (ahead old) ≡ bad (length (ahead new)) w → IsRefusedAt L R old.rest (length old.rest - left_of (lex new.rest)) w
+  bad_here : (w : Why) → Advances old new → r (ahead old) ≡ bad (length (ahead new)) w → IsRefusedAt L R old.rest
+      (length old.rest - left_of (lex new.rest)) w
   bad_here w goes is = go (lex new.rest) (goes_lex old new goes) is
     where
       go : (us : List Stamped) → lex old.rest ≡ goes.taken ++ us → r (ahead old) ≡ bad (length (kinds us)) w
@@ -49,7 +52,8 @@ module _ {A : Type 0} (L : A → List Token → Type 0) (R : List Token → Toke
           absurd (omega arith)
       go (u ∷ us) cut e = inl (text_bad L R r right old.rest w goes.taken u us cut e)
 
-  pub got_halt : (e : Halt) → ReadsFrom {A = A} r old new (Err e) → IsReadAs {A = A} L R old.rest (Err (error_of e (length old.rest) (left_of (lex new.rest))))
+  pub got_halt : (e : Halt) → ReadsFrom {A = A} r old new (Err e) → IsReadAs {A = A} L R old.rest
+      (Err (error_of e (length old.rest) (left_of (lex new.rest))))
   got_halt halt.More (goes, is) = text_more L R r right old.rest is
   got_halt halt.Bad (goes, is) = bad_here BadText goes is
   got_halt halt.Float (goes, is) = bad_here Float goes is

@@ -7,14 +7,14 @@ use Rattle.bp_value.specs.Form.{Form, form_of}
 use Rattle.bp_value.specs.Faults.{IsGood}
 use Rattle.bp_value.specs.Fits.{Fits}
 use Rattle.bp_text_grammar.specs.Tokens.{Token, Word, Number, Big, Text, Char, Mark, Wrong, OpenText, OpenChar}
-use Rattle.bp_text_grammar.specs.Lexing.{Stamped, Lexes}
+use Rattle.bp_text_grammar.specs.Lexing.{Stamped}
 use Rattle.bp_text_grammar.specs.ValueTexts.{IsValueTokens}
 use Rattle.bp_text_grammar.specs.ShapeTexts.{IsShapeTokens}
 use Rattle.bp_text_grammar.specs.PrintedPieces.{Piece, tokens_of, IsWritten, AreLaid}
 use Rattle.bp_text_grammar.specs.PrintedValues.{value_pieces, value_tokens}
 use Rattle.bp_text_grammar.specs.PrintedShapes.{shape_pieces, shape_tokens}
 use Rattle.bp_text_grammar.specs.PrintedTexts.{IsOfBytes, value_text, shape_text}
-use Rattle.bp_text_grammar.specs.WholeTexts.{is_open, has_open, seen, kinds, IsText, IsValueText, IsShapeText}
+use Rattle.bp_text_grammar.specs.WholeTexts.{is_open, has_open, seen, kinds, IsValueText, IsShapeText}
 use Rattle.bp_text_grammar.proofs.Exact.{lexes_once}
 use Rattle.bp_text_grammar.proofs.PrintedValues.{printed_value}
 use Rattle.bp_text_grammar.proofs.PrintedGood.{printed_shape}

@@ -1,8 +1,7 @@
 -- The tokens of a shape are words and marks, which their bytes spell as they are.
-use Rattle.std.proofs.Common.{◌≡◌, refl, sym, ap, ◌∙◌, subst, Option, Some, None, Bool, true, false, ◌||◌, ℕ, zero, suc, List, [], ◌∷◌, ◌++◌, length, codes, ◌⊎◌, inl, inr}
+use Rattle.std.proofs.Common.{◌≡◌, refl, sym, subst, Option, Some, None, Bool, true, false, ◌||◌, ℕ, zero, suc, List, [], ◌∷◌, ◌++◌, codes, ◌⊎◌, inl, inr}
 use Rattle.readers.specs.Reader.{Each, Is, Then, Mapped, One, Branch, Run, Rest, Others, Maybe}
 use Rattle.readers.proofs.Readers.{each-join}
-use Rattle.readers.proofs.Leaves.{is_or, pick_true, pick_false}
 use Rattle.bp_value.specs.declared.shape.Shape.{Shape}
 use Rattle.bp_value.specs.declared.shape.Shape.TheVariants as shp
 use Rattle.bp_value.specs.declared.shape.PolyCase.{PolyCase}
@@ -83,7 +82,8 @@ one_spelled h spelled a ts (t, cut, is) = subst (λ z. Each (Is is_spelled) z) (
 this_mark : (m : ℕ) → AllSpelled (ThisMark m)
 this_mark m = one_spelled (mark m) (λ t u is. mark_spelled m t (when_is (is_mark m t) tt u is).0)
 
-then_spelled : {A B : Type 0} (L : A → List Token → Type 0) (M : A → B → List Token → Type 0) → AllSpelled L → ((a : A) → AllSpelled (M a)) → AllSpelled (Then L M)
+then_spelled : {A B : Type 0} (L : A → List Token → Type 0) (M : A → B → List Token → Type 0) → AllSpelled L → ((a : A) → AllSpelled (M a))
+    → AllSpelled (Then L M)
 then_spelled L M first next b ts (a, t, u, cut, l, m) =
     subst (λ z. Each (Is is_spelled) z) (sym cut) (each-join (Is is_spelled) t u (first a t l) (next a b u m))
 
@@ -130,7 +130,8 @@ some_spelled sep close L spelled = onto_spelled L (Rest (is_mark sep) (is_mark c
 
 module _ (B : Shape → List Token → Type 0) (bases : AllSpelled B) where
   part_spelled : AllSpelled (IsPart B)
-  part_spelled = then_spelled B (λ b. Mapped (λ ws. posted b ws) (Run is_post most_posts)) bases (λ b. map_spelled (λ ws. posted b ws) (Run is_post most_posts) (run_spelled most_posts))
+  part_spelled = then_spelled B (λ b. Mapped (λ ws. posted b ws) (Run is_post most_posts)) bases
+      (λ b. map_spelled (λ ws. posted b ws) (Run is_post most_posts) (run_spelled most_posts))
 
   factors_spelled : AllSpelled (AreFactors B)
   factors_spelled = onto_spelled (IsPart B) (Others is_star (IsPart B)) part_spelled (others_spelled (IsPart B) part_spelled)
@@ -140,19 +141,23 @@ module _ (B : Shape → List Token → Type 0) (bases : AllSpelled B) where
 
   field_spelled : AllSpelled (IsField B)
   field_spelled =
-      then_spelled (One name_of) (λ n. Then (ThisMark colon) (λ u. Mapped (λ s. record { name = n; shape = s }) (IsProduct B))) (one_spelled name_of name_spelled)
+      then_spelled (One name_of) (λ n. Then (ThisMark colon) (λ u. Mapped (λ s. record { name = n; shape = s }) (IsProduct B)))
+      (one_spelled name_of name_spelled)
       (λ n. then_spelled (ThisMark colon) (λ u. Mapped (λ s. record { name = n; shape = s }) (IsProduct B)) (this_mark colon)
       (λ u. map_spelled (λ s. record { name = n; shape = s }) (IsProduct B) product_spelled))
 
   sum_case_spelled : AllSpelled (IsSumCase B)
   sum_case_spelled =
-      then_spelled (One name_of) (λ n. Mapped (λ o. record { name = n; args = no_arguments o }) (Maybe is_of (AreFactors B))) (one_spelled name_of name_spelled)
+      then_spelled (One name_of) (λ n. Mapped (λ o. record { name = n; args = no_arguments o }) (Maybe is_of (AreFactors B)))
+      (one_spelled name_of name_spelled)
       (λ n. map_spelled (λ o. record { name = n; args = no_arguments o }) (Maybe is_of (AreFactors B)) (maybe_spelled (AreFactors B) factors_spelled))
 
   poly_case_spelled : AllSpelled (IsPolyCase B)
   poly_case_spelled =
-      then_spelled (ThisMark backtick) (λ u. Then (One name_of) (λ n. Mapped (λ o. record { name = n; arg = o }) (Maybe is_of (IsProduct B)))) (this_mark backtick)
-      (λ u. then_spelled {B = PolyCase} (One name_of) (λ n. Mapped (λ o. record { name = n; arg = o }) (Maybe is_of (IsProduct B))) (one_spelled name_of name_spelled)
+      then_spelled (ThisMark backtick) (λ u. Then (One name_of) (λ n. Mapped (λ o. record { name = n; arg = o }) (Maybe is_of (IsProduct B))))
+      (this_mark backtick)
+      (λ u. then_spelled {B = PolyCase} (One name_of) (λ n. Mapped (λ o. record { name = n; arg = o }) (Maybe is_of (IsProduct B)))
+      (one_spelled name_of name_spelled)
       (λ n. map_spelled (λ o. record { name = n; arg = o }) (Maybe is_of (IsProduct B)) (maybe_spelled (IsProduct B) product_spelled)))
 
   round_spelled : AllSpelled (InRound B)
@@ -168,7 +173,8 @@ module _ (B : Shape → List Token → Type 0) (bases : AllSpelled B) where
 
   square_spelled : AllSpelled (InSquare B)
   square_spelled =
-      then_spelled (ThisMark square_open) (λ u. Branch (Mapped shp.Poly (AreSome bar square_close (IsPolyCase B))) (Mapped shp.Sum (AreSome bar square_close (IsSumCase B)))) (this_mark square_open)
+      then_spelled (ThisMark square_open) (λ u. Branch (Mapped shp.Poly (AreSome bar square_close (IsPolyCase B)))
+      (Mapped shp.Sum (AreSome bar square_close (IsSumCase B)))) (this_mark square_open)
       (λ u. branch_spelled (Mapped shp.Poly (AreSome bar square_close (IsPolyCase B))) (Mapped shp.Sum (AreSome bar square_close (IsSumCase B)))
       (map_spelled shp.Poly (AreSome bar square_close (IsPolyCase B)) (some_spelled bar square_close (IsPolyCase B) poly_case_spelled))
       (map_spelled shp.Sum (AreSome bar square_close (IsSumCase B)) (some_spelled bar square_close (IsSumCase B) sum_case_spelled)))
@@ -177,7 +183,8 @@ bases_spelled : (d : ℕ) → AllSpelled (IsBase d)
 unfolding IsBase
 bases_spelled zero = one_spelled base_of base_spelled
 bases_spelled (suc d) =
-    branch_spelled (InRound (IsBase d)) (Branch (InCurly (IsBase d)) (Branch (InSquare (IsBase d)) (One base_of))) (round_spelled (IsBase d) (bases_spelled d))
+    branch_spelled (InRound (IsBase d)) (Branch (InCurly (IsBase d)) (Branch (InSquare (IsBase d)) (One base_of)))
+    (round_spelled (IsBase d) (bases_spelled d))
     (branch_spelled (InCurly (IsBase d)) (Branch (InSquare (IsBase d)) (One base_of)) (curly_spelled (IsBase d) (bases_spelled d))
     (branch_spelled (InSquare (IsBase d)) (One base_of) (square_spelled (IsBase d) (bases_spelled d)) (one_spelled base_of base_spelled)))
 

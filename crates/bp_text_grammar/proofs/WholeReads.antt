@@ -53,8 +53,10 @@ module _ {A : Type 0} (L : A → List Token → Type 0) (R : List Token → Toke
       short.unfinished a (sym (ap has_open same) ∙ is.closed) (subst (λ ts. L a (kinds ts)) same is.spelled)
 
   -- the first token of those that are left is at fault
-  pub wrong_at : (s : List ℕ) (w : Why) (ts : List Stamped) (u : Stamped) (us : List Stamped) → lex s ≡ ts ++ u ∷ us → (p : List Token) (b : Token) (v : List Token)
-      → FaultAt L (kinds (lex s)) p b v (length (kinds (u ∷ us))) → R p b w → (wrong : IsWrongAt L R s (length s - u.left) w) × (wrong.before ≡ ts) × (kinds ts ≡ p)
+  pub wrong_at : (s : List ℕ) (w : Why) (ts : List Stamped) (u : Stamped) (us : List Stamped) → lex s ≡ ts ++ u ∷ us → (p : List Token)
+      (b : Token) (v : List Token)
+      → FaultAt L (kinds (lex s)) p b v (length (kinds (u ∷ us))) → R p b w → (wrong : IsWrongAt L R s (length s - u.left) w) ×
+      (wrong.before ≡ ts) × (kinds ts ≡ p)
   wrong_at s w ts u us cut p b v fault why =
       let (before, left) = same_cut (kinds ts) p (kinds (u ∷ us)) (b ∷ v) (sym (ap kinds cut ∙ kinds_join ts (u ∷ us)) ∙ fault.place) fault.left in
       let at : seen u.token ≡ b = cc in
@@ -96,7 +98,8 @@ module _ {A : Type 0} (L : A → List Token → Type 0) (R : List Token → Toke
     pub text_good : (s : List ℕ) (u : List Token) (a : A) → r (kinds (lex s)) ≡ whole a u → has_open (lex s) ≡ false → IsText L a s
     text_good s u a is closed = record { tokens = lex s; lexed = lexes_some s; closed = closed; spelled = (read_all (kinds (lex s)) u a is).1 }
 
-    pub text_open : (s : List ℕ) (u : List Token) (a : A) → r (kinds (lex s)) ≡ whole a u → has_open (lex s) ≡ true → IsRefusedAt L R s (length s) BadText
+    pub text_open : (s : List ℕ) (u : List Token) (a : A) → r (kinds (lex s)) ≡ whole a u → has_open (lex s) ≡ true → IsRefusedAt L R s
+        (length s) BadText
     text_open s u a is opened =
         let l = (read_all (kinds (lex s)) u a is).1 in
         inr (
@@ -128,4 +131,10 @@ module _ {A : Type 0} (L : A → List Token → Type 0) (R : List Token → Toke
     text_bad s w ts u us cut is =
         let (p, b, v, fault, why) = right.faults (kinds (lex s)) (length (kinds (u ∷ us))) w (each-any (kinds (lex s))) is in
         (wrong_at s w ts u us cut p b v
-        (record { place = fault.place; left = fault.left; front = ended_front L p fault.front; no_front = λ f. fault.no_front (front_ended L (p ++ b ∷ []) f) }) why).0
+        (record {
+          place = fault.place;
+          left = fault.left;
+          front = ended_front L p fault.front;
+          no_front = λ f. fault.no_front
+              (front_ended L (p ++ b ∷ []) f);
+        }) why).0

@@ -73,6 +73,12 @@ fn the_first_token_at_fault_is_refused(rt: HostRuntime) -> Result<(), Fail> {
 }
 
 #[test]
+fn at_most_64_brackets_are_open(rt: HostRuntime) -> Result<(), Fail> {
+    let brackets = [b'('; 65];
+    check(&rt, rt.alloc(), &[(&brackets[..], "BadText { at: 64 }")])
+}
+
+#[test]
 fn at_most_64_words_follow_a_base(rt: HostRuntime) -> Result<(), Fail> {
     let alloc = rt.alloc();
     let text = lists(alloc, 65)?;

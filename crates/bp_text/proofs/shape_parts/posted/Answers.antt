@@ -17,8 +17,10 @@ posts-preserved c =
     let shape = c.posts.shape in
     let made : c.if-is_list.shape ≡ (if is_first (is_word (codes "list")) (ahead old) then shp.List shape else shp.Opt shape) =
     elim c.if-is_list.branch [
-      | then-is_list w ↦ w.shape-is ∙ (ap shp.List c.in_ok-inner.ensures ∙ sym (pick_true _ (shp.List shape) (shp.Opt shape) (sym c.is_word-is_list.ensures ∙ w.if-is_list.true)))
-      | else-is_list w ↦ w.shape-is ∙ (ap shp.Opt c.in_ok-inner.ensures ∙ sym (pick_false _ (shp.List shape) (shp.Opt shape) (sym c.is_word-is_list.ensures ∙ w.if-is_list.false)))
+      | then-is_list w ↦ w.shape-is ∙ (ap shp.List c.in_ok-inner.ensures ∙ sym (pick_true _ (shp.List shape) (shp.Opt shape) (sym
+          c.is_word-is_list.ensures ∙ w.if-is_list.true)))
+      | else-is_list w ↦ w.shape-is ∙ (ap shp.Opt c.in_ok-inner.ensures ∙ sym (pick_false _ (shp.List shape) (shp.Opt shape) (sym
+          c.is_word-is_list.ensures ∙ w.if-is_list.false)))
     ] in
     let some = sym c.is_post.ensures ∙ c.posts-test.true in
     record {

@@ -19,6 +19,7 @@ returns-in-Ok-clause-only c = λ shape spelled good.
 
 pub returns-in-Err-clause-only : goal.returns-in-Err-clause-only
 returns-in-Err-clause-only c = λ shape spelled good.
-    let same = one_text IsShapeTokens IsShapeFault whole_shape_at right_whole_shape c.in_ok-shape.shape shape c.args.text.now c.in_ok-shape.ensures spelled in
+    let same = one_text IsShapeTokens IsShapeFault whole_shape_at right_whole_shape c.in_ok-shape.shape shape c.args.text.now
+    c.in_ok-shape.ensures spelled in
     let passed = c.in-Err.ensures.good.1 (subst (λ s. IsGood (form_of s)) (sym same) good) in
     absurd cc
