@@ -13,6 +13,8 @@ mod reading;
 mod shared;
 mod streams;
 mod tags;
+#[cfg(test)]
+mod tests;
 mod values;
 mod writing;
 

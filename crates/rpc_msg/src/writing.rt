@@ -3,7 +3,6 @@
 ghost use Rattle.std.specs.Prelude.{◌≡◌, ℕ, ◌+◌, ◌^◌, ◌≤◌, ◌++◌, ◌∷◌, take, drop, length, OnErr, OnOk};
 ghost use Rattle.bp_grammar.specs.Spells.{Spells};
 ghost use Rattle.bp_grammar.specs.Written.{written, written_parts, written_sexp};
-ghost use Rattle.bp_num.specs.Forms.{little_endian};
 ghost use Rattle.bp_value.specs.Fits.{Fits};
 ghost use Rattle.rpc_frame.specs.Frames.{frame};
 ghost use Rattle.rpc_msg.specs.Adds.{Adds};
