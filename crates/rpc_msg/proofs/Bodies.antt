@@ -1,8 +1,8 @@
 -- What the reading of a form's bytes says of a whole body.
-use Rattle.std.proofs.Common.{◌≡◌, refl, sym, ap, ◌∙◌, subst, ℕ, ◌+◌, ◌-◌, ◌<◌, ◌≤◌, zero, suc, List, [], ◌∷◌, ◌++◌, length, take, drop, All, arith}
+use Rattle.std.proofs.Common.{◌≡◌, refl, sym, ap, ◌∙◌, subst, ℕ, ◌-◌, ◌≤◌, List, [], ◌∷◌, length, take, drop, arith}
 use Rattle.std.specs.Prelude.{Result, Ok, Err}
 use Rattle.std.proofs.lemmas.List.{length-drop, length-take, take_all}
-use Rattle.readers.specs.Reader.{Outcome, whole, more, bad, mapped, Any, Front, Right, Each, IsByte, Stands, IsProperFront, IsFaultAt}
+use Rattle.readers.specs.Reader.{Outcome, whole, more, bad, mapped, Any, Front, Right, Each, IsByte, Stands, IsFaultAt}
 use Rattle.readers.proofs.Places.{told_whole, told_more, told_bad, only_whole, only_more, only_bad}
 use Rattle.bp_num.specs.declared.number.Why.{Why}
 use Rattle.bp_value.specs.declared.value.Sexp.{Sexp}
@@ -20,7 +20,7 @@ use Rattle.bp_grammar.proofs.Good.{good_read}
 use Rattle.bp_grammar.proofs.FrontsAre.{right_good, fronts_are}
 use Rattle.bp_grammar.proofs.Telling.{tells_form}
 use Rattle.bp_grammar.specs.Fronts.{Fronts}
-use Rattle.bp_grammar.proofs.Right.{IsRead, ArePartsRead, AreCasesRead, form_in}
+use Rattle.bp_grammar.proofs.Right.{IsRead, form_in}
 use Rattle.readers.proofs.Readers.{right_fronts}
 use Rattle.bp_codec.specs.Decoded.{IsDecoded}
 use Rattle.bp_codec.specs.declared.stop.Stop.{Stop}
@@ -28,7 +28,6 @@ use Rattle.bp_codec.specs.declared.stop.Stop.TheVariants as stop
 use Rattle.rpc_msg.specs.declared.fault.MsgFault.TheVariants as fault
 use Rattle.rpc_msg.specs.Bodies.{IsMsgFault, IsBodyRead}
 use Rattle.rpc_msg.specs.Taken.{Takes, ended_at}
-use Rattle.rpc_msg.specs.Forms.{message_form}
 use Rattle.bp_codec.specs.declared.decoding.Decoded.TheVariants as decoded
 
 -- ---- decoding, as a reading

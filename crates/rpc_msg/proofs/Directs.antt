@@ -9,7 +9,7 @@ use Rattle.bp_num.specs.NumberAt.{int_at, nat_at}
 use Rattle.bp_value.specs.declared.value.Value.{Value}
 use Rattle.bp_value.specs.declared.value.Value.TheVariants as val
 use Rattle.bp_value.specs.declared.value.Value.TheVariants.{Num, Text, Parts}
-use Rattle.bp_value.specs.Form.{Form, int, text, sexp, sum, end, part, end_cases, case}
+use Rattle.bp_value.specs.Form.{Form, int, text, sexp, sum, end, end_cases, case}
 use Rattle.bp_codec.specs.Plan.{keys_in}
 use Rattle.bp_grammar.specs.Spells.{place_of, keys_of}
 use Rattle.bp_grammar.specs.Reading.{sized_at, read, read_parts, read_case}

@@ -4,3 +4,5 @@ pub mod Bodies
 pub mod Readable
 pub mod Parts
 pub mod HeaderSteps
+pub mod Adding
+pub mod Bytes

@@ -1,5 +1,5 @@
 -- The parts of streams: the variant around an item, and the item that its text spells.
-use Rattle.std.proofs.Common.{◌≡◌, refl, sym, ap, ◌∙◌, subst, ℕ, zero, suc, ◌+◌, ◌-◌, ◌<◌, ◌≤◌, Option, Some, None, inl, inr, List, [], ◌∷◌, ◌++◌, length, take, drop, append_assoc, append-nil, length-append, arith}
+use Rattle.std.proofs.Common.{◌≡◌, refl, sym, ap, ◌∙◌, subst, ℕ, zero, suc, ◌+◌, ◌-◌, ◌≤◌, Option, Some, None, inl, List, [], ◌∷◌, ◌++◌, length, take, drop, append_assoc, append-nil, length-append, arith}
 use Rattle.std.proofs.Math.Seq.{drop-append_seam}
 use Rattle.std.proofs.lemmas.List.{take_all}
 use Rattle.std.specs.Prelude.{Result, Ok, Err}
@@ -20,7 +20,7 @@ use Rattle.rpc_msg.specs.declared.fault.MsgError.TheVariants as error
 use Rattle.rpc_msg.specs.declared.fault.MsgFault.TheVariants as fault
 use Rattle.rpc_msg.specs.Bodies.{IsMsgFault, IsBody, IsPartFault}
 use Rattle.rpc_msg.specs.Forms.{part_form}
-use Rattle.rpc_msg.specs.Taken.{Halts, Takes, TakesPart, ended_at}
+use Rattle.rpc_msg.specs.Taken.{Halts, TakesPart, ended_at}
 use Rattle.rpc_msg.specs.Values.{item_value, eof_value}
 use Rattle.rpc_msg.proofs.Bodies.{body_told}
 use Rattle.rpc_msg.proofs.Readable.{part_read}

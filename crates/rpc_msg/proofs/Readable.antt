@@ -1,9 +1,9 @@
 -- The forms of what frames hold can be read: each variant has cases, and the tags of each polymorphic one differ.
-use Rattle.std.proofs.Common.{◌≡◌, refl, sym, ◌∙◌, ap, ℕ, ◌<◌, List, [], ◌∷◌, inl, inr, arith}
-use Rattle.readers.specs.Keys.{Keyed, AreApart}
-use Rattle.bp_value.specs.Form.{Form, unit, text, end, part, end_cases, case}
+use Rattle.std.proofs.Common.{◌≡◌, sym, ◌∙◌, ℕ, List, [], ◌∷◌, inl, inr, arith}
+use Rattle.readers.specs.Keys.{AreApart}
+use Rattle.bp_value.specs.Form.{Form}
 use Rattle.bp_grammar.proofs.Right.{IsRead, ArePartsRead, AreCasesRead}
-use Rattle.rpc_msg.specs.Forms.{header_form, version_form, error_form, answer_form, query_form, response_form, message_form, stream_query_form, first_form, part_form}
+use Rattle.rpc_msg.specs.Forms.{header_form, version_form, error_form, answer_form, message_form, stream_query_form, first_form, part_form}
 
 apart_one : (a : ℕ × List ℕ) → AreApart (a ∷ [])
 apart_one a p q s (inl (p0, k)) (inl (q0, l)) = p0 ∙ sym q0

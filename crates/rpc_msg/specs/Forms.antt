@@ -1,5 +1,5 @@
 -- The forms of what frames hold (`protocol.ml`): a header, a message and what it says, and the data of streams.
-use Rattle.std.specs.Prelude.{ℕ, List, [], codes}
+use Rattle.std.specs.Prelude.{[], codes}
 use Rattle.bp_value.specs.Form.{Form, Parts, Cases, int, text, listed, fields, sum, poly, sexp, end, part, end_cases, case}
 
 -- one argument of a case

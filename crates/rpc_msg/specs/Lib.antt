@@ -4,3 +4,4 @@ pub mod Bodies
 pub mod Taken
 pub mod Beats
 pub mod Limits
+pub mod Adds

@@ -1,17 +1,15 @@
-use Rattle.std.proofs.Common.{sym, ap, ◌∙◌, arith}
+use Rattle.std.proofs.Common.{arith}
 use Rattle.bp_num.specs.NumberAt.{int_at}
 use Rattle.bp_num.specs.declared.number.IntKind.TheVariants.{Int63}
-use Rattle.bp_num.specs.declared.number.Why.TheVariants.{Case, Tag}
+use Rattle.bp_num.specs.declared.number.Why.TheVariants.{Case}
 use Rattle.readers.specs.Reader.{one}
-use Rattle.readers.specs.Keys.{key_at}
 use Rattle.bp_codec.proofs.Ranges.{number_back}
-use Rattle.bp_codec.specs.Plan.{keys_in}
 use Rattle.bp_grammar.specs.Spells.{place_of}
-use Rattle.bp_grammar.specs.Reading.{sized_at, read, read_parts}
-use Rattle.rpc_msg.specs.Forms.{error_form, unimplemented_parts}
-use Rattle.rpc_msg.specs.Values.{error_value, unimplemented_values}
-use Rattle.rpc_msg.proofs.Directs.{unimplemented_reads, error_reads, error_case}
-use Rattle.rpc_msg.proofs.Halting.{goes, gives, at_case, place_below, head_stops, last_head_stops, last_part_stops}
+use Rattle.bp_grammar.specs.Reading.{read}
+use Rattle.rpc_msg.specs.Forms.{error_form}
+use Rattle.rpc_msg.specs.Values.{error_value}
+use Rattle.rpc_msg.proofs.Directs.{error_reads, error_case}
+use Rattle.rpc_msg.proofs.Halting.{gives, at_case, place_below, head_stops, last_head_stops, last_part_stops}
 use Rattle.rpc_msg.proofs.errors.error_at.Goals as goal
 
 pub returns-in_err-place_at : goal.returns-in_err-place_at

@@ -1,7 +1,5 @@
-use Rattle.std.proofs.Common.{subst, sym}
 use Rattle.bp_grammar.specs.Reading.{read}
 use Rattle.bp_value.proofs.Forms.{form_of-Sexp}
-use Rattle.bp_value.specs.Faults.{IsGood}
 use Rattle.bp_value.specs.Form as form
 use Rattle.bp_value.specs.declared.value.Value.TheVariants as val
 use Rattle.rpc_msg.proofs.Bodies.{sexp_good, sexp_value}

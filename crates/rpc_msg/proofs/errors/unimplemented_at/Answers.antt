@@ -1,17 +1,15 @@
-use Rattle.std.proofs.Common.{sym, ap, ◌∙◌, List, [], ◌∷◌, arith}
+use Rattle.std.proofs.Common.{[], ◌∷◌, arith}
 use Rattle.bp_num.specs.NumberAt.{int_at}
 use Rattle.bp_num.specs.declared.number.IntKind.TheVariants.{Int63}
-use Rattle.bp_num.specs.declared.number.Why.TheVariants.{Case, Tag}
-use Rattle.readers.specs.Reader.{one}
+use Rattle.bp_num.specs.declared.number.Why.TheVariants.{Tag}
 use Rattle.readers.specs.Keys.{key_at}
 use Rattle.bp_codec.proofs.Ranges.{number_back}
 use Rattle.bp_codec.specs.Plan.{keys_in}
-use Rattle.bp_grammar.specs.Spells.{place_of}
-use Rattle.bp_grammar.specs.Reading.{sized_at, read, read_parts}
-use Rattle.rpc_msg.specs.Forms.{error_form, unimplemented_parts}
-use Rattle.rpc_msg.specs.Values.{error_value, unimplemented_values}
+use Rattle.bp_grammar.specs.Reading.{sized_at, read_parts}
+use Rattle.rpc_msg.specs.Forms.{unimplemented_parts}
+use Rattle.rpc_msg.specs.Values.{unimplemented_values}
 use Rattle.rpc_msg.proofs.Directs.{unimplemented_reads, version_part}
-use Rattle.rpc_msg.proofs.Halting.{goes, gives, at_case, key_below, head_stops, last_head_stops, last_part_stops}
+use Rattle.rpc_msg.proofs.Halting.{goes, gives, at_case, key_below, head_stops, last_head_stops}
 use Rattle.rpc_msg.proofs.errors.unimplemented_at.Goals as goal
 
 pub returns-in_err-tag-clause-takes : goal.returns-in_err-tag-clause-takes

@@ -1,15 +1,12 @@
-use Rattle.std.proofs.Common.{sym, ap, ◌∙◌, arith}
-use Rattle.bp_num.specs.NumberAt.{int_at}
-use Rattle.bp_num.specs.declared.number.IntKind.TheVariants.{Int63}
-use Rattle.bp_num.specs.declared.number.Why.TheVariants.{Case, Tag}
+use Rattle.std.proofs.Common.{arith}
+use Rattle.bp_num.specs.declared.number.Why.TheVariants.{Case}
 use Rattle.readers.specs.Reader.{one}
-use Rattle.bp_codec.proofs.Ranges.{number_back}
 use Rattle.bp_grammar.specs.Spells.{place_of}
-use Rattle.bp_grammar.specs.Reading.{sized_at, read}
-use Rattle.rpc_msg.specs.Forms.{query_form, answer_form, response_form, message_form, error_form}
-use Rattle.rpc_msg.specs.Values.{query_value, answer_value, response_value, message_value, error_value}
-use Rattle.rpc_msg.proofs.Directs.{response_reads, answer_reads, answer_case, message_reads, message_case}
-use Rattle.rpc_msg.proofs.Halting.{goes, gives, at_case, place_below, head_stops, last_head_stops, last_part_stops}
+use Rattle.bp_grammar.specs.Reading.{read}
+use Rattle.rpc_msg.specs.Forms.{message_form}
+use Rattle.rpc_msg.specs.Values.{message_value}
+use Rattle.rpc_msg.proofs.Directs.{message_reads, message_case}
+use Rattle.rpc_msg.proofs.Halting.{gives, at_case, place_below, head_stops, last_part_stops}
 use Rattle.rpc_msg.proofs.reading.message_at.Goals as goal
 
 pub returns-in_err-place_at : goal.returns-in_err-place_at

@@ -1,4 +1,3 @@
-use Rattle.std.proofs.Common.{sym, ap, ◌∙◌}
 use Rattle.bp_num.specs.NumberAt.{int_at}
 use Rattle.bp_num.specs.declared.number.IntKind.TheVariants.{Int63}
 use Rattle.bp_codec.proofs.Ranges.{number_back}

@@ -1,4 +1,4 @@
-use Rattle.std.proofs.Common.{◌≤◌, List, [], ◌∷◌, length, take, refl, ap, ◌∙◌, arith}
+use Rattle.std.proofs.Common.{◌≤◌, [], ◌∷◌, length, take, refl, ap, ◌∙◌, arith}
 use Rattle.std.proofs.lemmas.List.{length-take}
 use Rattle.readers.specs.Reader.{mapped}
 use Rattle.bp_num.specs.NumberAt.{nat_at}
@@ -6,11 +6,11 @@ use Rattle.bp_num.specs.declared.number.Why.TheVariants.{Tag}
 use Rattle.readers.specs.Keys.{key_at}
 use Rattle.bp_codec.specs.Plan.{keys_in}
 use Rattle.bp_codec.proofs.HeadSteps.{text_all, text_short}
-use Rattle.bp_grammar.specs.Reading.{sized_at, read}
+use Rattle.bp_grammar.specs.Reading.{read}
 use Rattle.rpc_msg.specs.Forms.{part_form}
 use Rattle.rpc_msg.specs.Values.{item_value}
 use Rattle.rpc_msg.proofs.Directs.{part_reads, part_case}
-use Rattle.rpc_msg.proofs.Halting.{goes, gives, at_case, key_below, halts, halts_after}
+use Rattle.rpc_msg.proofs.Halting.{at_case, key_below, halts, halts_after}
 use Rattle.rpc_msg.proofs.Parts.{part_err, sized_after}
 use Rattle.rpc_msg.proofs.streams.part_at.Goals as goal
 

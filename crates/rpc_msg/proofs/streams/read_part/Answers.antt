@@ -1,10 +1,8 @@
 use Rattle.std.proofs.Common.{sym, ap, ◌∙◌, inr, subst}
-use Rattle.std.specs.Prelude.{Err}
 use Rattle.bp_num.proofs.Payloads.{bytes_are}
 use Rattle.bp_value.specs.Form.{form_of}
 use Rattle.bp_grammar.specs.Spells.{Spells}
 use Rattle.rpc_msg.specs.Bodies.{behind, IsPart, IsPartFault, IsMsgFault}
-use Rattle.rpc_msg.specs.Forms.{part_form}
 use Rattle.rpc_msg.proofs.Parts.{body_err, text_stands, text_within, variant_fault, variant_told, IsVariant}
 use Rattle.rpc_msg.proofs.streams.read_part.Goals as goal
 

@@ -1,4 +1,4 @@
-use Rattle.std.proofs.Common.{List, [], ◌∷◌, arith}
+use Rattle.std.proofs.Common.{[], ◌∷◌, arith}
 use Rattle.bp_num.specs.declared.number.Why.TheVariants.{Tag}
 use Rattle.readers.specs.Keys.{key_at}
 use Rattle.bp_codec.specs.Plan.{keys_in}
