@@ -12,7 +12,7 @@ use Rattle.bp_text_grammar.specs.Lexing.{Stamped, Lexes}
 use Rattle.bp_text_grammar.specs.Scanning.{lex}
 use Rattle.bp_text_grammar.specs.Texts.{Why, BadText, Float, IsValueFault}
 use Rattle.bp_text_grammar.specs.ValueTexts.{IsValueTokens, value_at, whole_value_at}
-use Rattle.bp_text_grammar.specs.WholeTexts.{has_open, seen, kinds, IsText, IsWrongAt, IsShortOf, IsValueText, IsValueRefused}
+use Rattle.bp_text_grammar.specs.WholeTexts.{has_open, seen, kinds, IsTextOf, IsWrongAt, IsShortOf, IsValueText, IsValueRefused}
 use Rattle.bp_text_grammar.proofs.Exact.{lexes_some, lexes_lex, token_bytes}
 use Rattle.bp_text_grammar.proofs.ReadFits.{value_fits}
 use Rattle.bp_text_grammar.proofs.RightValues.{right_whole_value}
@@ -105,7 +105,7 @@ module _ {A : Type 0} (L : A → List Token → Type 0) (R : List Token → Toke
         let all : ahead old ≡ t = cut ∙ (ap (λ ts. t ++ kinds ts) none_left ∙ append-nil t) in
         subst (λ z. L a z) (sym all) (ended_is L a t l)
 
-    pub text_is : has_open (lex old.rest) ≡ false → IsText L a old.rest
+    pub text_is : has_open (lex old.rest) ≡ false → IsTextOf L a old.rest
     text_is closed = record { tokens = lex old.rest; lexed = lexes_some old.rest; closed = closed; spelled = spelled }
 
     pub open_short : has_open (lex old.rest) ≡ true → IsShortOf L old.rest

@@ -6,7 +6,7 @@ use Rattle.bp_text_grammar.specs.Tokens.{Token}
 use Rattle.bp_text_grammar.specs.Lexing.{Stamped}
 use Rattle.bp_text_grammar.specs.Scanning.{lex}
 use Rattle.bp_text_grammar.specs.Texts.{Why, BadText, Float}
-use Rattle.bp_text_grammar.specs.WholeTexts.{has_open, kinds, IsText, IsRefusedAt}
+use Rattle.bp_text_grammar.specs.WholeTexts.{has_open, kinds, IsTextOf, IsRefusedText}
 use Rattle.bp_text_grammar.proofs.WholeReads.{refused_none, read_all, text_good, text_open, text_more, text_bad}
 use Rattle.bp_text.specs.declared.error.TextError.{TextError}
 use Rattle.bp_text.specs.declared.error.TextError.TheVariants as error
@@ -33,19 +33,19 @@ module _ {A : Type 0} (L : A → List Token → Type 0) (R : List Token → Toke
     open_is : open_now ≡ has_open (lex old.rest)
     open_is = tells (none_seen (lex new.rest) (read_all L R r right (ahead old) (ahead new) a is.1).0) ∙ (is.0.opens ∙ opens)
 
-    pub got_text : open_now ≡ false → IsText L a old.rest
+    pub got_text : open_now ≡ false → IsTextOf L a old.rest
     got_text closed = text_good L R r right old.rest (ahead new) a is.1 (sym open_is ∙ closed)
 
-    pub got_open : open_now ≡ true → IsRefusedAt L R old.rest (length old.rest) BadText
+    pub got_open : open_now ≡ true → IsRefusedText L R old.rest (length old.rest) BadText
     got_open opened = text_open L R r right old.rest (ahead new) a is.1 (sym open_is ∙ opened)
 
   -- the first token that is left is at fault
-  bad_here : (w : Why) → Advances old new → r (ahead old) ≡ bad (length (ahead new)) w → IsRefusedAt L R old.rest
+  bad_here : (w : Why) → Advances old new → r (ahead old) ≡ bad (length (ahead new)) w → IsRefusedText L R old.rest
       (length old.rest - left_of (lex new.rest)) w
   bad_here w goes is = go (lex new.rest) (goes_lex old new goes) is
     where
       go : (us : List Stamped) → lex old.rest ≡ goes.taken ++ us → r (ahead old) ≡ bad (length (kinds us)) w
-          → IsRefusedAt L R old.rest (length old.rest - left_of us) w
+          → IsRefusedText L R old.rest (length old.rest - left_of us) w
       go [] cut e =
           let (p, b, v, fault, why) = right.faults (ahead old) 0 w (each-any (ahead old)) e in
           let none : 0 ≡ length (b ∷ v) = fault.left in
@@ -61,7 +61,7 @@ module _ {A : Type 0} (L : A → List Token → Type 0) (R : List Token → Toke
 
 -- a text of one value is read as that, if there is memory
 pub read_given : {A : Type 0} (L : A → List Token → Type 0) (R : List Token → Token → Why → Type 0) (a : A) (s : List ℕ) (e : TextError)
-    → IsReadAs {A = A} L R s (Err e) → IsText L a s → IsGiven {A = A} a (Err e)
+    → IsReadAs {A = A} L R s (Err e) → IsTextOf L a s → IsGiven {A = A} a (Err e)
 read_given L R a s (error.BadText at) refused is = refused_none L R s at BadText a refused is
 read_given L R a s (error.Float at) refused is = refused_none L R s at Float a refused is
 read_given L R a s (error.NotGood fault) never is = never

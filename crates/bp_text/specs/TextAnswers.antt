@@ -5,7 +5,7 @@ use Rattle.bp_value.specs.Form.{form_of}
 use Rattle.bp_value.specs.Faults.{FirstFault}
 use Rattle.bp_text_grammar.specs.Tokens as grammar
 use Rattle.bp_text_grammar.specs.Texts.{Why, BadText, Float}
-use Rattle.bp_text_grammar.specs.WholeTexts.{IsText, IsRefusedAt, IsShapeText, IsShapeRefused, IsShapeFront, IsNoShapeFront}
+use Rattle.bp_text_grammar.specs.WholeTexts.{IsTextOf, IsRefusedText, IsShapeText, IsShapeRefused, IsShapeFront, IsNoShapeFront}
 use Rattle.bp_text.specs.declared.error.TextError.{TextError}
 use Rattle.bp_text.specs.declared.error.TextError.TheVariants as error
 use Rattle.bp_text.specs.declared.halt.Halt.{Halt}
@@ -27,9 +27,9 @@ error_of halt.OutOfMemory len left = error.OutOfMemory
 -- the bytes are a text of the value; or they are refused there, for that reason
 abbrev pub IsReadAs : {A : Type 0} → (A → List grammar.Token → Type 0) → (List grammar.Token → grammar.Token → Why → Type 0) → List ℕ
     → Result A TextError → Type 0
-IsReadAs L R s (Ok a) = IsText L a s
-IsReadAs L R s (Err (error.BadText at)) = IsRefusedAt L R s at BadText
-IsReadAs L R s (Err (error.Float at)) = IsRefusedAt L R s at Float
+IsReadAs L R s (Ok a) = IsTextOf L a s
+IsReadAs L R s (Err (error.BadText at)) = IsRefusedText L R s at BadText
+IsReadAs L R s (Err (error.Float at)) = IsRefusedText L R s at Float
 IsReadAs L R s (Err (error.NotGood fault)) = ⊥
 IsReadAs L R s (Err error.OutOfMemory) = Unit {0}
 

@@ -76,9 +76,9 @@ abbrev pub is_first : (grammar.Token → Bool) → List grammar.Token → Bool
 is_first C [] = false
 is_first C (t ∷ ts) = C t
 
-abbrev pub IsFirst : List grammar.Token → Option (Bor Token) → Type 0
-IsFirst ts None = ts ≡ []
-IsFirst ts (Some token) = (us : List grammar.Token) × (ts ≡ token_of token.now ∷ us)
+abbrev pub IsFirstToken : List grammar.Token → Option (Bor Token) → Type 0
+IsFirstToken ts None = ts ≡ []
+IsFirstToken ts (Some token) = (us : List grammar.Token) × (ts ≡ token_of token.now ∷ us)
 
 -- the first token is taken
 abbrev pub TakesFirst : Unread → Unread → Result Token Halt → Type 0

@@ -5,7 +5,7 @@ ghost use Rattle.readers.specs.Reader.{one};
 ghost use Rattle.bp_text_grammar.specs.Texts.{BadText, is_mark, is_word, mark_at, word_at};
 ghost use Rattle.bp_text_grammar.specs.WholeTexts as texts;
 ghost use Rattle.bp_text.specs.Given.{token_of};
-ghost use Rattle.bp_text.specs.Unread.{ahead, is_first, left_of, taken_at, IsFirst, IsAhead, ReadsFrom, TakesFirst};
+ghost use Rattle.bp_text.specs.Unread.{ahead, is_first, left_of, taken_at, IsFirstToken, IsAhead, ReadsFrom, TakesFirst};
 
 use crate::halt::Halt;
 use crate::scanning::{after_blanks, next_token};
@@ -105,7 +105,7 @@ impl<'a> Cursor<'a> {
 
     /// The first token that is left.
     pub fn first(&self) -> Option<&Token<'a>>
-        ensures { IsFirst (ahead self.now) result }
+        ensures { IsFirstToken (ahead self.now) result }
     {
         match &self.next {
             Some(ahead) => Some(&ahead.token),

@@ -7,7 +7,7 @@ use Rattle.bp_text_grammar.specs.Tokens.{Token}
 use Rattle.bp_text_grammar.specs.Lexing.{Stamped, Lexes}
 use Rattle.bp_text_grammar.specs.Scanning.{lex}
 use Rattle.bp_text_grammar.specs.Texts.{Why, BadText}
-use Rattle.bp_text_grammar.specs.WholeTexts.{has_open, seen, kinds, IsText, IsWrongAt, IsRefusedAt}
+use Rattle.bp_text_grammar.specs.WholeTexts.{has_open, seen, kinds, IsTextOf, IsWrongAt, IsRefusedText}
 use Rattle.bp_text_grammar.proofs.Exact.{lexes_some, lexes_once, lexes_lex, token_bytes}
 use Rattle.bp_text_grammar.proofs.Told.{ended_front, front_ended}
 
@@ -35,13 +35,13 @@ module _ {A : Type 0} (L : A → List Token → Type 0) (R : List Token → Toke
   is_ended a ts l = (a, ts, [], sym (append-nil ts), l, (refl, refl))
 
   -- the tokens of a text are those of the bytes
-  text_tokens : (a : A) (s : List ℕ) → IsText L a s → (has_open (lex s) ≡ false) × L a (kinds (lex s))
+  text_tokens : (a : A) (s : List ℕ) → IsTextOf L a s → (has_open (lex s) ≡ false) × L a (kinds (lex s))
   text_tokens a s is =
       let same = lexes_lex is.tokens s is.lexed in
       (sym (ap has_open same) ∙ is.closed, subst (λ ts. L a (kinds ts)) same is.spelled)
 
   -- a text is nowhere refused
-  pub refused_none : (s : List ℕ) (k : ℕ) (w : Why) (a : A) → IsRefusedAt L R s k w → IsText L a s → ⊥
+  pub refused_none : (s : List ℕ) (k : ℕ) (w : Why) (a : A) → IsRefusedText L R s k w → IsTextOf L a s → ⊥
   refused_none s k w a (inl wrong) is =
       let same = lexes_lex (wrong.before ++ wrong.wrong ∷ wrong.behind) s wrong.lexed in
       let parts : kinds (lex s) ≡ (kinds wrong.before ++ seen wrong.wrong.token ∷ []) ++ kinds wrong.behind =
@@ -81,7 +81,7 @@ module _ {A : Type 0} (L : A → List Token → Type 0) (R : List Token → Toke
     whole_of : (a : A) (ts : List Token) → L a ts → r ts ≡ whole a []
     whole_of a ts l = sym (ap r (append-nil ts)) ∙ right.complete a ts [] (is_ended a ts l) tt
 
-    pub one_text : (a b : A) (s : List ℕ) → IsText L a s → IsText L b s → a ≡ b
+    pub one_text : (a b : A) (s : List ℕ) → IsTextOf L a s → IsTextOf L b s → a ≡ b
     one_text a b s first second =
         let e : ◌≡◌ {A = Outcome Token Why A} (whole a []) (whole b []) =
         sym (whole_of a (kinds (lex s)) (text_tokens a s first).1) ∙ whole_of b (kinds (lex s)) (text_tokens b s second).1 in
@@ -95,10 +95,10 @@ module _ {A : Type 0} (L : A → List Token → Type 0) (R : List Token → Toke
         go {t = t} [] cut f l = (refl, subst (λ y. L a y) (sym (cut ∙ append-nil t)) (ended_is a t l))
         go (c ∷ u) cut f l = absurd f
 
-    pub text_good : (s : List ℕ) (u : List Token) (a : A) → r (kinds (lex s)) ≡ whole a u → has_open (lex s) ≡ false → IsText L a s
+    pub text_good : (s : List ℕ) (u : List Token) (a : A) → r (kinds (lex s)) ≡ whole a u → has_open (lex s) ≡ false → IsTextOf L a s
     text_good s u a is closed = record { tokens = lex s; lexed = lexes_some s; closed = closed; spelled = (read_all (kinds (lex s)) u a is).1 }
 
-    pub text_open : (s : List ℕ) (u : List Token) (a : A) → r (kinds (lex s)) ≡ whole a u → has_open (lex s) ≡ true → IsRefusedAt L R s
+    pub text_open : (s : List ℕ) (u : List Token) (a : A) → r (kinds (lex s)) ≡ whole a u → has_open (lex s) ≡ true → IsRefusedText L R s
         (length s) BadText
     text_open s u a is opened =
         let l = (read_all (kinds (lex s)) u a is).1 in
@@ -113,7 +113,7 @@ module _ {A : Type 0} (L : A → List Token → Type 0) (R : List Token → Toke
           },
         )
 
-    pub text_more : (s : List ℕ) → r (kinds (lex s)) ≡ more → IsRefusedAt L R s (length s) BadText
+    pub text_more : (s : List ℕ) → r (kinds (lex s)) ≡ more → IsRefusedText L R s (length s) BadText
     text_more s is = inr (
       refl,
       refl,

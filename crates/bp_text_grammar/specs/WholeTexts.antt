@@ -34,7 +34,7 @@ kinds ts = map (λ t. seen t.token) ts
 -- ---- whole texts of a language over tokens
 
 -- the bytes are a text of the value: their tokens are one, and none is left open
-pub record IsText {A : Type 0} (L : A → List Token → Type 0) (a : A) (s : List ℕ) : Type 0 where
+pub record IsTextOf {A : Type 0} (L : A → List Token → Type 0) (a : A) (s : List ℕ) : Type 0 where
   pub tokens : List Stamped
   pub lexed : Lexes tokens s
   pub closed : has_open tokens ≡ false
@@ -59,22 +59,22 @@ pub record IsShortOf {A : Type 0} (L : A → List Token → Type 0) (s : List �
   pub unfinished : (a : A) → has_open tokens ≡ false → L a (kinds tokens) → ⊥
 
 -- the place where a text is refused, and why: at the first token that cannot stand there, or at its end
-abbrev pub IsRefusedAt : {A : Type 0} → (A → List Token → Type 0) → (List Token → Token → Why → Type 0) → List ℕ → ℕ → Why → Type 0
-IsRefusedAt L R s k w = IsWrongAt L R s k w ⊎ ((k ≡ length s) × (w ≡ BadText) × IsShortOf L s)
+abbrev pub IsRefusedText : {A : Type 0} → (A → List Token → Type 0) → (List Token → Token → Why → Type 0) → List ℕ → ℕ → Why → Type 0
+IsRefusedText L R s k w = IsWrongAt L R s k w ⊎ ((k ≡ length s) × (w ≡ BadText) × IsShortOf L s)
 
 -- ---- values and shapes
 
 abbrev pub IsValueText : Form → Value → List ℕ → Type 0
-IsValueText f v s = IsText (IsValueTokens f) v s
+IsValueText f v s = IsTextOf (IsValueTokens f) v s
 
 abbrev pub IsValueRefused : Form → List ℕ → ℕ → Type 0
-IsValueRefused f s k = IsRefusedAt (IsValueTokens f) IsValueFault s k BadText
+IsValueRefused f s k = IsRefusedText (IsValueTokens f) IsValueFault s k BadText
 
 abbrev pub IsShapeText : Shape → List ℕ → Type 0
-IsShapeText shape s = IsText IsShapeTokens shape s
+IsShapeText shape s = IsTextOf IsShapeTokens shape s
 
 abbrev pub IsShapeRefused : List ℕ → ℕ → Why → Type 0
-IsShapeRefused s k w = IsRefusedAt IsShapeTokens IsShapeFault s k w
+IsShapeRefused s k w = IsRefusedText IsShapeTokens IsShapeFault s k w
 
 -- ---- a shape in front of a longer text
 

@@ -27,7 +27,7 @@ use Rattle.bp_codec.specs.declared.stop.Stop.{Stop}
 use Rattle.bp_codec.specs.declared.stop.Stop.TheVariants as stop
 use Rattle.rpc_msg.specs.declared.fault.MsgFault.TheVariants as fault
 use Rattle.rpc_msg.specs.Bodies.{IsMsgFault, IsBodyRead}
-use Rattle.rpc_msg.specs.Taken.{Takes, ended_at}
+use Rattle.rpc_msg.specs.Taken.{TakesAs, ended_at}
 use Rattle.bp_codec.specs.declared.decoding.Decoded.TheVariants as decoded
 
 -- ---- decoding, as a reading
@@ -84,7 +84,7 @@ right_read m f is =
 
 -- what the answer says of the body
 pub body_told : {A : Type 0} (g : A → Value) (m : ℕ) (f : Form) (body rest : List ℕ) (r : Result A Stop) → IsRead f → Each IsByte body
-    → Takes g (read m f) body rest r → IsBodyRead g m f body (ended_at (length body) (length rest) r)
+    → TakesAs g (read m f) body rest r → IsBodyRead g m f body (ended_at (length body) (length rest) r)
 body_told g m f body [] (Ok a) is vs reads =
     let (k, stands, left) = told_whole IsByte (Spells m f) (FaultWhy m f) (read m f) (right_read m f is) body (g a) [] vs reads in
     let dropped = length-drop k body in

@@ -10,7 +10,7 @@ use Rattle.bp_codec.specs.declared.stop.Stop.TheVariants as stop
 use Rattle.bp_codec.specs.Keeping.{Gives}
 use Rattle.bp_grammar.specs.Spells.{place_of}
 use Rattle.bp_grammar.proofs.Leaves.{place_is}
-use Rattle.rpc_msg.specs.Taken.{Halts, Takes}
+use Rattle.rpc_msg.specs.Taken.{Halts, TakesAs}
 
 abbrev Out : Type 0 → Type 0
 Out A = Outcome ℕ Why A
@@ -43,7 +43,7 @@ halts_mapped h o stop.OutOfMemory new is r = tt
 
 -- the answer of a call that passes a stop on
 pub takes_err : {A B : Type 0} (g : A → B) (r : List ℕ → Out B) (old new : List ℕ) (result : Result A Stop) (e : Stop)
-    → IsErrAnd result (λ x. x ≡ e) → Halts e (r old) new → Takes g r old new result
+    → IsErrAnd result (λ x. x ≡ e) → Halts e (r old) new → TakesAs g r old new result
 takes_err g r old new (Ok a) e is h = absurd is
 takes_err g r old new (Err x) e is h = subst (λ y. Halts y (r old) new) (sym is) h
 
@@ -51,21 +51,21 @@ takes_err g r old new (Err x) e is h = subst (λ y. Halts y (r old) new) (sym is
 
 -- a head was to be read
 pub head_stops : {A B C : Type 0} (g : C → B) (r : List ℕ → Out B) (s : List ℕ) (leaf : List ℕ → Out A) (old new : List ℕ) (result : Result C Stop) (e : Stop)
-    (F : A → List ℕ → Out B) → r s ≡ after (leaf old) F → IsErrAnd result (λ x. x ≡ e) → Gives leaf old new (Err e) → Takes g r s new result
+    (F : A → List ℕ → Out B) → r s ≡ after (leaf old) F → IsErrAnd result (λ x. x ≡ e) → Gives leaf old new (Err e) → TakesAs g r s new result
 head_stops g r s leaf old new result e F is err at = takes_err g r s new result e err (halts_after F (leaf old) e new is (halts leaf old new e at))
 
 -- a head, and nothing after it
 pub last_head_stops : {A B C : Type 0} (g : C → B) (r : List ℕ → Out B) (s : List ℕ) (leaf : List ℕ → Out A) (old new : List ℕ) (result : Result C Stop) (e : Stop)
-    (h : A → B) → r s ≡ mapped h (leaf old) → IsErrAnd result (λ x. x ≡ e) → Gives leaf old new (Err e) → Takes g r s new result
+    (h : A → B) → r s ≡ mapped h (leaf old) → IsErrAnd result (λ x. x ≡ e) → Gives leaf old new (Err e) → TakesAs g r s new result
 last_head_stops g r s leaf old new result e h is err at = takes_err g r s new result e err (halts_mapped h (leaf old) e new is (halts leaf old new e at))
 
 -- something else
 pub part_stops : {A B C : Type 0} (g : C → B) (r : List ℕ → Out B) (s : List ℕ) (o : Out A) (new : List ℕ) (result : Result C Stop) (e : Stop)
-    (F : A → List ℕ → Out B) → r s ≡ after o F → IsErrAnd result (λ x. x ≡ e) → Halts e o new → Takes g r s new result
+    (F : A → List ℕ → Out B) → r s ≡ after o F → IsErrAnd result (λ x. x ≡ e) → Halts e o new → TakesAs g r s new result
 part_stops g r s o new result e F is err at = takes_err g r s new result e err (halts_after F o e new is at)
 
 pub last_part_stops : {A B C : Type 0} (g : C → B) (r : List ℕ → Out B) (s : List ℕ) (o : Out A) (new : List ℕ) (result : Result C Stop) (e : Stop)
-    (h : A → B) → r s ≡ mapped h o → IsErrAnd result (λ x. x ≡ e) → Halts e o new → Takes g r s new result
+    (h : A → B) → r s ≡ mapped h o → IsErrAnd result (λ x. x ≡ e) → Halts e o new → TakesAs g r s new result
 last_part_stops g r s o new result e h is err at = takes_err g r s new result e err (halts_mapped h o e new is at)
 
 -- ---- one of some cases

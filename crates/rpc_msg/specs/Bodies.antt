@@ -38,9 +38,9 @@ abbrev pub IsFirst : ℕ → Form → Form → First → List ℕ → Type 0
 IsFirst m begun declined first body = (unused : ℤ) × Spells m (first_form begun declined) (first_value unused first) body
 
 -- the end of a stream, or an item: its spelling is the text of the part
-abbrev pub IsPart : ℕ → Form → StreamPart → List ℕ → Type 0
-IsPart m item (stream.Item v) body = (text : List ℕ) × Spells m part_form (item_value text) body × Spells m item v text
-IsPart m item stream.Eof body = Spells m part_form eof_value body
+abbrev pub IsStreamPart : ℕ → Form → StreamPart → List ℕ → Type 0
+IsStreamPart m item (stream.Item v) body = (text : List ℕ) × Spells m part_form (item_value text) body × Spells m item v text
+IsStreamPart m item stream.Eof body = Spells m part_form eof_value body
 
 -- n bytes stand before
 abbrev pub behind : ℕ → MsgFault → MsgFault

@@ -17,9 +17,9 @@ Halts (stop.Bad w) o left = o ≡ bad (length left) w
 Halts stop.OutOfMemory o left = Unit {0}
 
 -- the bytes `old` are read, and the bytes `new` are left; g says what was read
-abbrev pub Takes : {A B : Type 0} → (A → B) → (List ℕ → Outcome ℕ Why B) → List ℕ → List ℕ → Result A Stop → Type 0
-Takes g reads old new (Ok a) = reads old ≡ whole (g a) new
-Takes g reads old new (Err e) = Halts e (reads old) new
+abbrev pub TakesAs : {A B : Type 0} → (A → B) → (List ℕ → Outcome ℕ Why B) → List ℕ → List ℕ → Result A Stop → Type 0
+TakesAs g reads old new (Ok a) = reads old ≡ whole (g a) new
+TakesAs g reads old new (Err e) = Halts e (reads old) new
 
 -- a part was read: an item, whose spelling has so many bytes, or the end of the stream
 abbrev pub TakesPart : (List ℕ → Outcome ℕ Why Value) → List ℕ → List ℕ → Result (Option ℕ) Stop → Type 0

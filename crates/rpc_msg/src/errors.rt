@@ -4,7 +4,7 @@ ghost use Rattle.std.specs.Int.{w64};
 ghost use Rattle.bp_grammar.specs.Reading.{read, read_parts};
 ghost use Rattle.bp_value.specs.Form as form;
 ghost use Rattle.bp_value.specs.declared.value.Value.TheVariants as val;
-ghost use Rattle.rpc_msg.specs.Taken.{Takes};
+ghost use Rattle.rpc_msg.specs.Taken.{TakesAs};
 ghost use Rattle.rpc_msg.specs.Forms.{error_form, unimplemented_parts};
 ghost use Rattle.rpc_msg.specs.Values.{error_value, unimplemented_values};
 
@@ -21,7 +21,7 @@ use std::alloc::Global;
 #[inline(never)]
 pub fn error_at(rest: &mut &[u8], alloc: Global, max_len: u64) -> Result<RpcError, Stop>
     requires { max_len ≤ 2 ^ 30 }
-    ensures { Takes error_value (read max_len error_form) rest.old.now rest.new.now result }
+    ensures { TakesAs error_value (read max_len error_form) rest.old.now rest.new.now result }
 {
     match place_at(rest, 6)? {
         0 => Ok(RpcError::BinIo(sexp_at(rest, alloc, max_len)?)),
@@ -39,7 +39,7 @@ pub fn error_at(rest: &mut &[u8], alloc: Global, max_len: u64) -> Result<RpcErro
 // The name and the version that no procedure has.
 fn unimplemented_at(rest: &mut &[u8], alloc: Global, max_len: u64) -> Result<(Blob, i64), Stop>
     requires { max_len ≤ 2 ^ 30 }
-    ensures takes { Takes unimplemented_values (read_parts max_len unimplemented_parts)
+    ensures takes { TakesAs unimplemented_values (read_parts max_len unimplemented_parts)
         rest.old.now rest.new.now result }
     ensures fits { IfOk result (λ pair. FitsSigned w64 pair.1) }
 {
@@ -51,7 +51,7 @@ fn unimplemented_at(rest: &mut &[u8], alloc: Global, max_len: u64) -> Result<(Bl
 
 fn sexp_at(rest: &mut &[u8], alloc: Global, max_len: u64) -> Result<Sexp, Stop>
     requires { max_len ≤ 2 ^ 30 }
-    ensures { Takes val.Sexp (read max_len form.sexp) rest.old.now rest.new.now result }
+    ensures { TakesAs val.Sexp (read max_len form.sexp) rest.old.now rest.new.now result }
 {
     match value_at(rest, alloc, &Shape::Sexp, max_len)? {
         Value::Sexp(sexp) => Ok(sexp),

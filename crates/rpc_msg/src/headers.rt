@@ -4,7 +4,7 @@ ghost use Rattle.bp_grammar.specs.Reading.{read};
 ghost use Rattle.bp_value.specs.declared.value.Value.TheVariants as val;
 ghost use Rattle.rpc_msg.specs.Bodies.{IsBodyRead};
 ghost use Rattle.rpc_msg.specs.Forms.{header_form};
-ghost use Rattle.rpc_msg.specs.Taken.{Takes};
+ghost use Rattle.rpc_msg.specs.Taken.{TakesAs};
 ghost use Rattle.rpc_msg.specs.Values.{header_value, HasOne};
 
 use crate::ends::ended;
@@ -29,7 +29,7 @@ pub fn read_header(alloc: Global, body: &[u8], max_len: u64) -> Result<Header, M
 
 fn header_at(rest: &mut &[u8], alloc: Global, max_len: u64) -> Result<Header, Stop>
     requires { max_len ≤ 2 ^ 30 }
-    ensures { Takes header_value (read max_len header_form) rest.old.now rest.new.now result }
+    ensures { TakesAs header_value (read max_len header_form) rest.old.now rest.new.now result }
 {
     let count = length_at(rest, max_len)?;
     let mut versions = Vec::new(alloc);

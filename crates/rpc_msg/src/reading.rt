@@ -3,7 +3,7 @@
 ghost use Rattle.std.specs.Prelude.{◌^◌, ◌<◌, ◌≤◌};
 ghost use Rattle.bp_grammar.specs.Reading.{read};
 ghost use Rattle.rpc_msg.specs.Bodies.{IsBodyRead};
-ghost use Rattle.rpc_msg.specs.Taken.{Takes};
+ghost use Rattle.rpc_msg.specs.Taken.{TakesAs};
 ghost use Rattle.rpc_msg.specs.Forms.{answer_form, message_form, query_form, response_form};
 ghost use Rattle.rpc_msg.specs.Values.{answer_value, message_value, query_value, response_value};
 
@@ -29,7 +29,7 @@ pub fn read_message(alloc: Global, body: &[u8], max_len: u64) -> Result<Message,
 
 fn message_at(rest: &mut &[u8], alloc: Global, max_len: u64) -> Result<Message, Stop>
     requires { max_len ≤ 2 ^ 30 }
-    ensures { Takes message_value (read max_len message_form) rest.old.now rest.new.now result }
+    ensures { TakesAs message_value (read max_len message_form) rest.old.now rest.new.now result }
 {
     match place_at(rest, 3)? {
         0 => Ok(Message::Heartbeat),
@@ -40,7 +40,7 @@ fn message_at(rest: &mut &[u8], alloc: Global, max_len: u64) -> Result<Message, 
 
 fn query_at(rest: &mut &[u8], alloc: Global, max_len: u64) -> Result<Query, Stop>
     requires { max_len ≤ 2 ^ 30 }
-    ensures { Takes query_value (read max_len query_form) rest.old.now rest.new.now result }
+    ensures { TakesAs query_value (read max_len query_form) rest.old.now rest.new.now result }
 {
     let tag = text_at(rest, alloc, max_len)?;
     let version = number_at(rest, IntKind::Int63)?;
@@ -56,7 +56,7 @@ fn query_at(rest: &mut &[u8], alloc: Global, max_len: u64) -> Result<Query, Stop
 
 fn response_at(rest: &mut &[u8], alloc: Global, max_len: u64) -> Result<Response, Stop>
     requires { max_len ≤ 2 ^ 30 }
-    ensures { Takes response_value (read max_len response_form) rest.old.now rest.new.now result }
+    ensures { TakesAs response_value (read max_len response_form) rest.old.now rest.new.now result }
 {
     let id = number_at(rest, IntKind::Int63)?;
     let result = answer_at(rest, alloc, max_len)?;
@@ -65,7 +65,7 @@ fn response_at(rest: &mut &[u8], alloc: Global, max_len: u64) -> Result<Response
 
 fn answer_at(rest: &mut &[u8], alloc: Global, max_len: u64) -> Result<Answer, Stop>
     requires { max_len ≤ 2 ^ 30 }
-    ensures { Takes answer_value (read max_len answer_form) rest.old.now rest.new.now result }
+    ensures { TakesAs answer_value (read max_len answer_form) rest.old.now rest.new.now result }
 {
     match place_at(rest, 2)? {
         0 => Ok(Answer::Ok(text_at(rest, alloc, max_len)?)),

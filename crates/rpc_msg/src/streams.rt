@@ -4,9 +4,9 @@ ghost use Rattle.std.specs.Prelude.{◌≡◌, ◌^◌, ◌<◌, ◌≤◌, ◌+
 ghost use Rattle.bp_grammar.specs.Reading.{read};
 ghost use Rattle.bp_value.specs.Faults.{IsGood};
 ghost use Rattle.bp_value.specs.Form.{form_of};
-ghost use Rattle.rpc_msg.specs.Bodies.{behind, place_of_fault, IsBody, IsBodyRead, IsFirst, IsMsgFault, IsPart, IsPartFault};
+ghost use Rattle.rpc_msg.specs.Bodies.{behind, place_of_fault, IsBody, IsBodyRead, IsFirst, IsMsgFault, IsStreamPart, IsPartFault};
 ghost use Rattle.rpc_msg.specs.Forms.{first_form, part_form, stream_query_form};
-ghost use Rattle.rpc_msg.specs.Taken.{Takes, TakesPart};
+ghost use Rattle.rpc_msg.specs.Taken.{TakesAs, TakesPart};
 ghost use Rattle.rpc_msg.specs.Values.{stream_query_value, unused_first};
 
 use crate::data::{First, StreamPart, StreamQuery};
@@ -32,7 +32,7 @@ pub fn read_stream_query(alloc: Global, body: &[u8], max_len: u64) -> Result<Str
 
 fn stream_query_at(rest: &mut &[u8], alloc: Global, max_len: u64) -> Result<StreamQuery, Stop>
     requires { max_len ≤ 2 ^ 30 }
-    ensures { Takes stream_query_value (read max_len stream_query_form)
+    ensures { TakesAs stream_query_value (read max_len stream_query_form)
         rest.old.now rest.new.now result }
 {
     match tag_at(rest, &[QUERY, ABORT])? {
@@ -74,7 +74,7 @@ fn first_at(
     requires good_first { IsGood (form_of first.now) }
     requires good_error { IsGood (form_of error.now) }
     requires limit { max_len ≤ 2 ^ 30 }
-    ensures { Takes unused_first (read max_len (first_form (form_of first.now) (form_of error.now)))
+    ensures { TakesAs unused_first (read max_len (first_form (form_of first.now) (form_of error.now)))
         rest.old.now rest.new.now result }
 {
     let unused = number_at(rest, IntKind::Int63)?;
@@ -97,7 +97,7 @@ pub fn read_part(
     requires good { IsGood (form_of item.now) }
     requires limit { max_len ≤ 2 ^ 30 }
     ensures { let f = form_of item.now in
-        IsBody (IsPart max_len f) (IsPartFault max_len f) body.now result }
+        IsBody (IsStreamPart max_len f) (IsPartFault max_len f) body.now result }
 {
     let mut rest = body;
     let read = part_at(&mut rest, max_len);

@@ -4,7 +4,7 @@ ghost use Rattle.bp_grammar.specs.Reading.{read};
 ghost use Rattle.bp_value.specs.Faults.{IsGood};
 ghost use Rattle.bp_value.specs.Form.{form_of};
 ghost use Rattle.rpc_msg.specs.Bodies.{IsBodyRead};
-ghost use Rattle.rpc_msg.specs.Taken.{Takes};
+ghost use Rattle.rpc_msg.specs.Taken.{TakesAs};
 
 use crate::ends::ended;
 use crate::fault::MsgError;
@@ -34,7 +34,7 @@ pub fn read_whole(
 pub fn value_at(rest: &mut &[u8], alloc: Global, shape: &Shape, max_len: u64) -> Result<Value, Stop>
     requires good { IsGood (form_of shape.now) }
     requires limit { max_len ≤ 2 ^ 30 }
-    ensures { Takes (λ v. v) (read max_len (form_of shape.now)) rest.old.now rest.new.now result }
+    ensures { TakesAs (λ v. v) (read max_len (form_of shape.now)) rest.old.now rest.new.now result }
 {
     let bytes = *rest;
     known(bytes);

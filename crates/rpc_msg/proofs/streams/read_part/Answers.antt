@@ -2,7 +2,7 @@ use Rattle.std.proofs.Common.{sym, ap, ◌∙◌, inr, subst}
 use Rattle.bp_num.proofs.Payloads.{bytes_are}
 use Rattle.bp_value.specs.Form.{form_of}
 use Rattle.bp_grammar.specs.Spells.{Spells}
-use Rattle.rpc_msg.specs.Bodies.{behind, IsPart, IsPartFault, IsMsgFault}
+use Rattle.rpc_msg.specs.Bodies.{behind, IsStreamPart, IsPartFault, IsMsgFault}
 use Rattle.rpc_msg.proofs.Parts.{body_err, text_stands, text_within, variant_fault, variant_told, IsVariant}
 use Rattle.rpc_msg.proofs.streams.read_part.Goals as goal
 
@@ -13,7 +13,7 @@ returns-in_err-size c =
     let told =
     variant_told m c.args.body.now c.part_at-read.new.rest.now c.part_at-read.result (bytes_are c.args.body.now c.type_inv.body) c.part_at-read.ensures in
     let here = rw (sym c.in_err-size.ensures) at told in
-    body_err (IsVariant m) (IsPart m f) (IsPartFault m f) c.args.body.now c.from_residual.result c.in_err-size.field-0.0 c.from_residual.ensures.1
+    body_err (IsVariant m) (IsStreamPart m f) (IsPartFault m f) c.args.body.now c.from_residual.result c.in_err-size.field-0.0 c.from_residual.ensures.1
     (variant_fault m f (IsVariant m) (IsVariant m) c.args.body.now c.in_err-size.field-0.0 here)
 
 pub returns-in_default : goal.returns-in_default
