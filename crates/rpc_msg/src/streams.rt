@@ -74,8 +74,8 @@ fn first_at(
     requires good_first { IsGood (form_of first.now) }
     requires good_error { IsGood (form_of error.now) }
     requires limit { max_len ≤ 2 ^ 30 }
-    ensures { TakesAs unused_first (read max_len (first_form (form_of first.now) (form_of error.now)))
-        rest.old.now rest.new.now result }
+    ensures { let f = first_form (form_of first.now) (form_of error.now) in
+        TakesAs unused_first (read max_len f) rest.old.now rest.new.now result }
 {
     let unused = number_at(rest, IntKind::Int63)?;
     match place_at(rest, 2)? {

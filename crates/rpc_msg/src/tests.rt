@@ -57,7 +57,7 @@ fn unread(alloc: Global) -> Result<Message, OutOfMemory> {
     Ok(response(Answer::Error(error)))
 }
 
-/// Whether the message is written as the frame of this body, of less than 256 bytes, behind a byte.
+/// Whether the message is written as the frame of this body, behind a byte.
 fn writes(
     alloc: Global,
     message: Result<Message, OutOfMemory>,
@@ -68,7 +68,8 @@ fn writes(
     out.push(9)?;
     write_message(&message, &mut out)?;
     let mut want = Vec::new(alloc);
-    want.extend_from_slice(&[9, body.len() as u8, 0, 0, 0, 0, 0, 0, 0])?;
+    want.push(9)?;
+    want.extend_from_slice(&(body.len() as u64).to_le_bytes())?;
     want.extend_from_slice(body)?;
     Ok(out.as_slice() == want.as_slice())
 }
