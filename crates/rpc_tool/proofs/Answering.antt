@@ -1,15 +1,22 @@
 -- From what was written to what the status means.
 use Rattle.std.proofs.Common.{arith, ◌≡◌, ◌<◌, ℕ, List, [], length, take, refl, sym, ◌∙◌, subst, inl, inr}
-use Rattle.std.specs.Prelude.{Option, Some, None, String, ◌⊎◌, ◌↔◌, IfSome}
+use Rattle.std.specs.Prelude.{Option, Some, None, String, ◌⊎◌, ◌↔◌, IfOk, IfSome, Result, Ok, Err}
 use Rattle.std.specs.declared.alloc.Global.{Global}
 use Rattle.std.proofs.lemmas.List.{take_all}
 use Rattle.rpc_world.specs.declared.schedule.Schedule.{Schedule}
 use Rattle.rpc_tool.specs.declared.command.Command.{Command}
+use Rattle.rpc_tool.specs.declared.command.Misuse.{Misuse}
+use Rattle.rpc_tool.specs.declared.command.Misuse.TheVariants as misuse
+use Rattle.bp_value.specs.declared.OutOfMemory as oom
+use Rattle.rpc_tool.specs.declared.answers.Answer.{Answer}
+use Rattle.rpc_tool.specs.declared.answers.Answer.TheVariants as answer
+use Rattle.rpc_tool.specs.Answers.{Answers}
 use Rattle.rpc_tool.specs.declared.status.Status.{Status}
-use Rattle.rpc_tool.specs.declared.status.Status.TheVariants.{Done, Refused, Usage, WriteFault, OutOfMemory, TooLong}
-use Rattle.rpc_tool.specs.Commands.{IsNamed, IsRefusal}
+use Rattle.rpc_tool.specs.declared.status.Status.TheVariants.{Done, Refused, BadShape, Usage, ReadFault, WriteFault, WireFault, OutOfMemory, TooLong}
+use Rattle.rpc_tool.specs.Commands.{IsNamed, IsDone, IsRefusal, IsReplay}
+use Rattle.rpc_tool.specs.declared.command.Command.TheVariants.{Show, Write, Replay}
 use Rattle.rpc_tool.specs.Limits.{most_input}
-use Rattle.rpc_tool.specs.Means.{code_of, IsAnswer, IsSaid, IsAnswered, IsReadThrough, IsReadWhole, Means}
+use Rattle.rpc_tool.specs.Means.{code_of, IsAnswer, IsSaid, IsAnswered, WasGiven, IsReadThrough, IsReadWhole, IsReportOf, IsReportOfInput, MayRunOut, Means}
 
 -- ---- answers
 
@@ -20,45 +27,83 @@ written_front Writes text written =
     (length text, subst Writes (sym (take_all (length text) text (omega arith))) written)
 
 -- an answer that was written is what the status says
-pub answered_said : (Reports : Schedule → List ℕ → Type 0) (command : Option Command)
+pub answered_said : (Reports : Schedule → List ℕ → Type 0) (named : Result Command Misuse)
     (input : List ℕ) (Writes : List ℕ → Type 0) (status : Status) (text : List ℕ) (result : Status)
-    → IsAnswer Reports command input status text → IsAnswered status text Writes result
-    → IsSaid Reports command input Writes result
-answered_said Reports command input Writes status text result answer (inr failed) =
-    subst (λ r. IsSaid Reports command input Writes r) (sym failed.0)
+    → IsAnswer Reports named input status text → IsAnswered status text Writes result
+    → IsSaid Reports named input Writes result
+answered_said Reports named input Writes status text result answer (inr failed) =
+    subst (λ r. IsSaid Reports named input Writes r) (sym failed.0)
     (status, text, failed.1.0, answer, failed.1.1)
-answered_said Reports (Some c) input Writes Done text result answer (inl done) =
-    subst (λ r. IsSaid Reports (Some c) input Writes r) (sym done.0) (text, answer, done.1)
-answered_said Reports (Some c) input Writes Refused text result answer (inl done) =
-    subst (λ r. IsSaid Reports (Some c) input Writes r) (sym done.0) (text, answer, done.1)
-answered_said Reports None input Writes Usage text result answer (inl done) =
-    subst (λ r. IsSaid Reports None input Writes r) (sym done.0) (text, answer, done.1)
-answered_said Reports command input Writes status text result answer (inl done) = absurd answer
+answered_said Reports (Ok c) input Writes Done text result answer (inl done) =
+    subst (λ r. IsSaid Reports (Ok c) input Writes r) (sym done.0) (text, answer, done.1)
+answered_said Reports (Ok c) input Writes Refused text result answer (inl done) =
+    subst (λ r. IsSaid Reports (Ok c) input Writes r) (sym done.0) (text, answer, done.1)
+answered_said Reports (Err misuse.Usage) input Writes Usage text result answer (inl done) =
+    subst (λ r. IsSaid Reports (Err misuse.Usage) input Writes r) (sym done.0) (text, answer, done.1)
+answered_said Reports (Err (misuse.BadShape error)) input Writes BadShape text result answer (inl done) =
+    subst (λ r. IsSaid Reports (Err (misuse.BadShape error)) input Writes r) (sym done.0) (text, answer, done.1)
+answered_said Reports named input Writes status text result answer (inl done) = absurd answer
 
 -- a refusal was written, or memory ran out before it was made
-pub refused_said : (Reports : Schedule → List ℕ → Type 0) (command : Command) (input : List ℕ)
-    (Writes : List ℕ → Type 0) (text : List ℕ) (result : Status) → IsRefusal command input text
-    → IsAnswered Refused text Writes result ⊎ ((result ≡ OutOfMemory) × Writes [])
-    → IsSaid Reports (Some command) input Writes result
-refused_said Reports command input Writes text result refusal (inl answered) =
-    answered_said Reports (Some command) input Writes Refused text result refusal answered
-refused_said Reports command input Writes text result refusal (inr memory) =
-    subst (λ r. IsSaid Reports (Some command) input Writes r) (sym memory.0) (refl, memory.1)
+pub refused_said : (Reports : Schedule → List ℕ → Type 0) (named : Result Command Misuse) (input : List ℕ)
+    (Writes : List ℕ → Type 0) (status : Status) (text : List ℕ) (result : Status) → IsAnswer Reports named input status text
+    → MayRunOut named → IsAnswered status text Writes result ⊎ ((result ≡ OutOfMemory) × Writes [])
+    → IsSaid Reports named input Writes result
+refused_said Reports named input Writes status text result answer may (inl answered) =
+    answered_said Reports named input Writes status text result answer answered
+refused_said Reports named input Writes status text result answer may (inr memory) =
+    subst (λ r. IsSaid Reports named input Writes r) (sym memory.0) (may, memory.1)
 
--- the usage line is no sign of bytes that came
-pub usage_short : (Writes : List ℕ → Type 0) (text : List ℕ) (result : Status)
-    → IsAnswered Usage text Writes result → result ≡ TooLong → ⊥
-usage_short Writes text result (inl written) long =
-    let wrong : Usage ≡ TooLong = sym written.0 ∙ long in cc
-usage_short Writes text result (inr failed) long =
-    let wrong : WriteFault ≡ TooLong = sym failed.0 ∙ long in cc
+-- what a command has made was written
+pub given_said : (Reports : Schedule → List ℕ → Type 0) (command : Command) (input : List ℕ) (Writes : List ℕ → Type 0)
+    (made : Result Answer oom.OutOfMemory) (result : Status) → IfOk made (Answers (IsDone Reports command input) (IsRefusal command input))
+    → WasGiven made Writes result → IsSaid Reports (Ok command) input Writes result
+given_said Reports command input Writes (Ok (answer.Done text)) result done answered =
+    answered_said Reports (Ok command) input Writes Done text.items result done answered
+given_said Reports command input Writes (Ok (answer.Refused text)) result refusal answered =
+    answered_said Reports (Ok command) input Writes Refused text.items result refusal answered
+given_said Reports command input Writes (Err e) result made (memory, none) =
+    subst (λ r. IsSaid Reports (Ok command) input Writes r) (sym memory) (tt, none)
 
-pub usage_whole : (Writes : List ℕ → Type 0) (text : List ℕ) (result : Status)
-    → IsAnswered Usage text Writes result → IsReadWhole result → ⊥
-usage_whole Writes text result (inl written) whole =
-    let wrong = subst IsReadWhole written.0 whole in wrong
-usage_whole Writes text result (inr failed) whole =
-    let wrong = subst IsReadWhole failed.0 whole in wrong
+-- and the input was read for it
+pub given_through : (made : Result Answer oom.OutOfMemory) (Writes : List ℕ → Type 0) (result : Status) → WasGiven made Writes result → IsReadThrough result
+given_through (Ok (answer.Done text)) Writes result (inl written) = subst IsReadThrough (sym written.0) tt
+given_through (Ok (answer.Done text)) Writes result (inr failed) = subst IsReadThrough (sym failed.0) tt
+given_through (Ok (answer.Refused text)) Writes result (inl written) = subst IsReadThrough (sym written.0) tt
+given_through (Ok (answer.Refused text)) Writes result (inr failed) = subst IsReadThrough (sym failed.0) tt
+given_through (Err e) Writes result memory = subst IsReadThrough (sym memory.0) tt
+
+-- a line that is written before the input is read is no sign of bytes that came
+abbrev pub IsBefore : Status → Type 0
+IsBefore Usage = Unit {0}
+IsBefore BadShape = Unit {0}
+IsBefore OutOfMemory = Unit {0}
+IsBefore WriteFault = Unit {0}
+IsBefore status = ⊥
+
+pub before_read : (Writes : List ℕ → Type 0) (status : Status) (text : List ℕ) (result : Status) → IsBefore status
+    → IsAnswered status text Writes result → IsBefore result
+before_read Writes status text result before (inl written) = subst IsBefore (sym written.0) before
+before_read Writes status text result before (inr failed) = subst IsBefore (sym failed.0) tt
+
+pub before_refused : (Writes : List ℕ → Type 0) (text : List ℕ) (result : Status)
+    → IsAnswered BadShape text Writes result ⊎ ((result ≡ OutOfMemory) × Writes []) → IsBefore result
+before_refused Writes text result (inl answered) = before_read Writes BadShape text result tt answered
+before_refused Writes text result (inr memory) = subst IsBefore (sym memory.0) tt
+
+pub before_short : (result : Status) → IsBefore result → result ≡ TooLong → ⊥
+before_short result before long = let wrong = subst IsBefore long before in wrong
+
+pub before_whole : (result : Status) → IsBefore result → IsReadWhole result → ⊥
+before_whole Done before whole = before
+before_whole Refused before whole = before
+before_whole WireFault before whole = before
+before_whole Usage before whole = whole
+before_whole BadShape before whole = whole
+before_whole OutOfMemory before whole = whole
+before_whole WriteFault before whole = whole
+before_whole ReadFault before whole = whole
+before_whole TooLong before whole = whole
 
 -- once the input was read, it was not too long
 pub not_too_long : (status : Status) → IsReadThrough status → status ≡ TooLong → ⊥
@@ -66,20 +111,21 @@ not_too_long status through same = let wrong = subst IsReadThrough same through 
 
 -- a run that stopped before it read its input whole
 pub stopped : (Reports : Schedule → List ℕ → Type 0) (Comes : List ℕ → Type 0)
-    (left : Option (List ℕ)) (Writes : List ℕ → Type 0) (words : List (String Global))
-    (command : Option Command) (status : Status) (bytes : List ℕ) → IsNamed words command
+    (left : Option (List ℕ)) (Ended : Type 0) (Writes : List ℕ → Type 0) (words : List (String Global))
+    (named : Result Command Misuse) (status : Status) (bytes : List ℕ) → IsNamed words named
     → Comes bytes → (status ≡ TooLong ↔ most_input < length bytes) → (IsReadWhole status → ⊥)
-    → IsSaid Reports command bytes Writes status
-    → Means Reports Comes left Writes words (code_of status)
-stopped Reports Comes left Writes words command status bytes named came too_long cut said = record {
-  command = command;
+    → IsSaid Reports named bytes Writes status
+    → Means Reports Comes left Ended Writes words (code_of status)
+stopped Reports Comes left Ended Writes words named status bytes is_named came too_long cut said = record {
   named = named;
+  is_named = is_named;
   status = status;
   coded = refl;
   bytes = bytes;
   came = came;
   too_long = too_long;
   whole = λ whole. absurd (cut whole);
+  ended = λ whole. absurd (cut whole);
   said = said;
 }
 

@@ -6,9 +6,15 @@ pub mod Effects
 pub mod Shows
 pub mod Replaying
 pub mod Answering
+pub mod Codes
 pub mod Words
 pub mod Slices
 pub mod Refusals
 pub mod InputEvents
 pub mod InputLines
 pub mod InputTexts
+pub mod Pieces
+pub mod SpelledFits
+pub mod HexTexts
+pub mod HexDigits
+pub mod LineEnds

@@ -1,24 +1,71 @@
 -- The commands of the program: the words that name each, and what it writes.
-use Rattle.std.specs.Prelude.{Option, Some, None, ◌≡◌, ℕ, List, [], ◌∷◌, codes, map, string_bytes, String}
+use Rattle.std.specs.Prelude.{Option, Some, None, ◌≡◌, ℕ, List, [], ◌∷◌, ◌⊎◌, codes, map, string_bytes, String, Result, Ok, Err}
 use Rattle.std.specs.declared.alloc.Global.{Global}
+use Rattle.bp_value.specs.declared.shape.Shape.{Shape}
+use Rattle.bp_value.specs.Form.{form_of}
+use Rattle.bp_value.specs.Faults.{IsGood}
+use Rattle.bp_text_grammar.specs.WholeTexts.{IsShapeText}
+use Rattle.bp_text.specs.TextAnswers.{RefusesShape}
 use Rattle.rpc_world.specs.declared.schedule.Schedule.{Schedule}
 use Rattle.rpc_world.specs.Input.{IsInput, IsBadLine}
 use Rattle.rpc_world.specs.Report.{line_about}
+use Rattle.rpc_tool.specs.ValueCommands.{IsShown, IsShowRefusal, IsWrittenOut, IsWriteRefusal}
 use Rattle.rpc_tool.specs.declared.command.Command.{Command}
-use Rattle.rpc_tool.specs.declared.command.Command.TheVariants.{Replay}
+use Rattle.rpc_tool.specs.declared.command.Command.TheVariants.{Show, Write, Replay}
+use Rattle.rpc_tool.specs.declared.command.Misuse.{Misuse}
+use Rattle.rpc_tool.specs.declared.command.Misuse.TheVariants.{Usage, BadShape}
+
+-- ---- words
+
+-- a word is the text of a good shape
+abbrev pub NamesShape : Shape → List ℕ → Type 0
+NamesShape shape word = IsShapeText shape word × IsGood (form_of shape)
+
+-- two words, of which the second is for a shape
+abbrev pub AreWithShape : List ℕ → List (List ℕ) → Type 0
+AreWithShape word words = (words ≡ codes "show" ∷ word ∷ []) ⊎ (words ≡ codes "write" ∷ word ∷ [])
+
+-- words of a form
+abbrev pub AreOfForm : List (List ℕ) → Type 0
+AreOfForm words = (words ≡ codes "replay" ∷ []) ⊎ ((word : List ℕ) × AreWithShape word words)
 
 -- the words of a command
-abbrev pub Names : Command → List (String Global) → Type 0
-Names Replay words = map string_bytes words ≡ codes "replay" ∷ []
+abbrev pub AreWordsOf : Command → List (List ℕ) → Type 0
+AreWordsOf (Show shape) words = (word : List ℕ) × (words ≡ codes "show" ∷ word ∷ []) × NamesShape shape word
+AreWordsOf (Write shape) words = (word : List ℕ) × (words ≡ codes "write" ∷ word ∷ []) × NamesShape shape word
+AreWordsOf Replay words = words ≡ codes "replay" ∷ []
 
--- the command that words name, or that they name none
-abbrev pub IsNamed : List (String Global) → Option Command → Type 0
-IsNamed words (Some command) = Names command words
-IsNamed words None = (command : Command) → Names command words → ⊥
+abbrev pub IsReplay : List (String Global) → Type 0
+IsReplay words = AreWordsOf Replay (map string_bytes words)
+
+-- the shape of a command is good
+abbrev pub IsOfGoodShape : Command → Type 0
+IsOfGoodShape (Show shape) = IsGood (form_of shape)
+IsOfGoodShape (Write shape) = IsGood (form_of shape)
+IsOfGoodShape Replay = Unit {0}
+
+-- the command of some words, or why they have none
+abbrev pub AreNamed : List (List ℕ) → Result Command Misuse → Type 0
+AreNamed words (Ok command) = AreWordsOf command words
+AreNamed words (Err Usage) = AreOfForm words → ⊥
+AreNamed words (Err (BadShape error)) = (word : List ℕ) × AreWithShape word words × RefusesShape word error
+
+abbrev pub IsNamed : List (String Global) → Result Command Misuse → Type 0
+IsNamed words named = AreNamed (map string_bytes words) named
+
+-- what is made of a word for a shape
+abbrev pub IsShapeNamed : String Global → Result Shape Misuse → Type 0
+IsShapeNamed word (Ok shape) = NamesShape shape (string_bytes word)
+IsShapeNamed word (Err Usage) = ⊥
+IsShapeNamed word (Err (BadShape error)) = RefusesShape (string_bytes word) error
+
+-- ---- what is written
 
 -- What a command has to write once it is done, by its input; `Reports s text` is that a text is a
 -- report of a schedule.
 abbrev pub IsDone : (Schedule → List ℕ → Type 0) → Command → List ℕ → List ℕ → Type 0
+IsDone Reports (Show shape) input text = IsShown (form_of shape) input text
+IsDone Reports (Write shape) input text = IsWrittenOut (form_of shape) input text
 IsDone Reports Replay input text = (s : Schedule) × IsInput input s × Reports s text
 
 -- the line about a line of a schedule that is none
@@ -27,8 +74,12 @@ refused_line number = line_about number (codes "not in the first path")
 
 -- what a command has to write where it refuses its input
 abbrev pub IsRefusal : Command → List ℕ → List ℕ → Type 0
+IsRefusal (Show shape) input text = IsShowRefusal (form_of shape) input text
+IsRefusal (Write shape) input text = IsWriteRefusal (form_of shape) input text
 IsRefusal Replay input text = (number : ℕ) × IsBadLine input number × (text ≡ refused_line number)
 
 -- a command comes to use its wires for an input
 abbrev pub MeetsWires : Command → List ℕ → Type 0
+MeetsWires (Show shape) input = ⊥
+MeetsWires (Write shape) input = ⊥
 MeetsWires Replay input = (s : Schedule) × IsInput input s

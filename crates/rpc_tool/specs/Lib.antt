@@ -6,5 +6,9 @@ pub mod Stands
 pub mod Showing
 pub mod Replayed
 pub mod Input
+pub mod HexTexts
+pub mod ValueCommands
+pub mod Answers
+pub mod ShapeRefusals
 pub mod Commands
 pub mod Means

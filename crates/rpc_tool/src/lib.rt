@@ -1,19 +1,24 @@
 //! The commands of the program `rpc`.
 #![tactic(auto)]
 
+mod answers;
 mod carry;
 mod command;
 mod ends;
 mod failure;
+mod hexes;
 mod inbox;
 mod input;
 mod message;
 mod pair;
 mod replay;
 mod report;
+mod shape_words;
+mod showing;
 mod status;
 mod text;
 mod top;
+mod writing;
 
 pub use status::{Status, trouble};
 pub use top::run;

@@ -9,6 +9,8 @@ pub enum Status {
     Done,
     /// The input is refused.
     Refused,
+    /// The word for a shape is refused.
+    BadShape,
     /// The words are no command.
     Usage,
     /// Reading the input failed.
@@ -30,7 +32,7 @@ impl Status {
     {
         match self {
             Status::Done => 0,
-            Status::Refused => 1,
+            Status::Refused | Status::BadShape => 1,
             Status::Usage => 2,
             Status::ReadFault => 3,
             Status::WriteFault => 4,

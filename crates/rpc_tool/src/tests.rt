@@ -3,6 +3,8 @@ use bp_base::{BentWire, MemSink, MemSource, MemWire, Wire};
 use std::alloc::{AllocError, Global};
 use std::test::Fail;
 
+mod values;
+
 const SCHEDULE: &str = "plain echo 1 both = string -> string\n--\nup all\ndown all\n\
     ask a echo 1 \"hi\"\nup 20 by 1\nreply a \"hi\"\ndown 15 by 1\n";
 

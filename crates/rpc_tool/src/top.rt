@@ -1,23 +1,28 @@
 // The top call of the program `rpc`.
-ghost use Rattle.std.specs.Prelude.{String, Some, ◌≡◌, ◌≢◌, ◌⊎◌, ◌≤◌, true, ℕ, List, []};
-ghost use Rattle.std.specs.Io.KnownBytes.{IsAtEnd};
+ghost use Rattle.std.specs.Prelude.{Ok, ◌≡◌, ◌≢◌, ◌≤◌, ◌⊎◌, true, [], length};
 ghost use Rattle.bp_base.specs.Faults.{Counts, BothGoOn};
 ghost use Rattle.bp_base.specs.Told.{Gains};
-ghost use Rattle.bp_base.specs.Whole.{Came};
 ghost use Rattle.rpc_tool.specs.declared.command.Command.TheVariants as command;
 ghost use Rattle.rpc_tool.specs.declared.status.Status.{Status};
 ghost use Rattle.rpc_tool.specs.declared.status.Status.TheVariants as outcome;
 ghost use Rattle.rpc_tool.specs.Replayed.{FreshOver, HonestOver, ReportedOver, ReplayedOver};
-ghost use Rattle.rpc_tool.specs.Commands.{refused_line};
-ghost use Rattle.rpc_tool.specs.Means.{code_of, ReportsOver, Means, MeansOf, IsSaid, IsAnswered, IsReadThrough, IsReadWhole, IsWholeCode, IsReportOfInput};
+ghost use Rattle.rpc_tool.specs.Commands.{refused_line, IsOfGoodShape};
+ghost use Rattle.rpc_tool.specs.Limits.{most_input};
+ghost use Rattle.rpc_tool.specs.ShapeRefusals.{shape_refused};
+ghost use Rattle.rpc_tool.specs.Means.{code_of, ReportsOver, MeansFor, MeansOf, IsReplayDone, IsSaid, IsAnswered, WasGiven, IsReadThrough, IsReportOfInput};
 
-use crate::command::{Command, command_of};
+use crate::answers::Answer;
+use crate::command::{Command, Misuse, command_of};
 use crate::failure::Failure;
 use crate::input::{InputError, read_schedule};
 use crate::replay::replay;
 use crate::report::push_line_about;
+use crate::shape_words::put_shape_refusal;
+use crate::showing::show;
 use crate::status::Status;
+use crate::writing::write;
 use bp_base::{Finished, ReadAllError, Sink, Source, Wire, read_all, write_all};
+use bp_text::TextError;
 use bp_value::OutOfMemory;
 use rpc_world::Schedule;
 use std::alloc::Global;
@@ -45,53 +50,91 @@ pub fn run<I: Source, O: Sink, W: Wire>(
     ensures wires { BothGoOn W.faults W.honest up.old up.new down.old down.new
         (result ≡ code_of outcome.WireFault) }
 
-    // What the code means, of the words, the bytes of input that came and what was written.
-    ensures means { Means (ReportsOver W.honest W.sent W.given up.old up.new down.old down.new)
-        (Came I.given I.left input.old input.new) (I.left input.old)
-        (Gains O.put out.old out.new) words.now result }
+    // What the code means, of the words, the bytes of input that came and what was written. A
+    // result is written, and an input refused, only once the input was read to its end.
+    ensures means { MeansFor (ReportsOver W.honest W.sent W.given up.old up.new down.old down.new)
+        I.given I.left I.ended input.old input.new (Gains O.put out.old out.new)
+        words.now result }
 
-    // A report is written, and an input refused, only once the input was read to its end.
-    ensures ended { IsWholeCode result → (I.ended input.new ≡ true) × IsAtEnd (I.left input.new) }
-
-    // Over fresh wires that tell their bytes, honest or not, a report shows what they gave.
-    ensures reported { FreshOver W.sent W.given up.old down.old → result ≡ code_of outcome.Done
+    // Of a replay: over fresh wires that tell their bytes, honest or not, a report shows what they
+    // gave.
+    ensures reported { IsReplayDone words.now result → FreshOver W.sent W.given up.old down.old
         → IsReportOfInput (ReportedOver W.sent W.given up.new down.new) (I.left input.old)
         (Gains O.put out.old out.new) }
 
     // Over honest ones it is the text of the replay, however cut, and they tell its last world.
-    ensures replayed { HonestOver W.honest W.sent W.given up.old down.old
-        → result ≡ code_of outcome.Done
+    ensures replayed { IsReplayDone words.now result
+        → HonestOver W.honest W.sent W.given up.old down.old
         → IsReportOfInput (ReplayedOver W.sent W.given up.new down.new) (I.left input.old)
         (Gains O.put out.old out.new) }
 {
-    match command_of(words) {
-        Some(Command::Replay) => replay_input(alloc, input, out, up, down).code(),
-        None => answer(out, USAGE, Status::Usage).code(),
+    match command_of(alloc, words) {
+        Ok(command) => obey(alloc, &command, input, out, up, down).code(),
+        Err(Misuse::Usage) => answer(out, USAGE, Status::Usage).code(),
+        Err(Misuse::BadShape(error)) => refuse_shape(alloc, &error, out).code(),
     }
 }
 
-/// Replays the schedule that the input spells.
-fn replay_input<I: Source, O: Sink, W: Wire>(
+/// Does what a command asks for, by what the input says.
+fn obey<I: Source, O: Sink, W: Wire>(
     alloc: Global,
+    command: &Command,
     input: &mut I,
     out: &mut O,
     up: &mut W,
     down: &mut W,
 ) -> Status
+    requires { IsOfGoodShape command.now }
     ensures read { Counts I.faults input.old input.new (result ≡ outcome.ReadFault) }
     ensures write { Counts O.faults out.old out.new (result ≡ outcome.WriteFault) }
     ensures wires { BothGoOn W.faults W.honest up.old up.new down.old down.new
         (result ≡ outcome.WireFault) }
     ensures means { MeansOf (ReportsOver W.honest W.sent W.given up.old up.new down.old down.new)
-        (Came I.given I.left input.old input.new) (I.left input.old)
-        (Gains O.put out.old out.new) command.Replay result }
-    ensures ended { IsReadWhole result → (I.ended input.new ≡ true) × IsAtEnd (I.left input.new) }
+        I.given I.left I.ended input.old input.new (Gains O.put out.old out.new)
+        command.now result }
 {
     match read_all(alloc, input, MAX_INPUT) {
-        Ok(text) => replay_text(alloc, &text, out, up, down),
+        Ok(text) => perform(alloc, command, &text, out, up, down),
         Err(ReadAllError::ReadFault) => Status::ReadFault,
         Err(ReadAllError::TooLong { .. }) => Status::TooLong,
         Err(ReadAllError::OutOfMemory) => Status::OutOfMemory,
+    }
+}
+
+/// Does what a command asks for, by a text that is not too long.
+fn perform<O: Sink, W: Wire>(
+    alloc: Global,
+    command: &Command,
+    text: &[u8],
+    out: &mut O,
+    up: &mut W,
+    down: &mut W,
+) -> Status
+    requires good { IsOfGoodShape command.now }
+    requires short { length text.now ≤ most_input }
+    ensures write { Counts O.faults out.old out.new (result ≡ outcome.WriteFault) }
+    ensures wires { BothGoOn W.faults W.honest up.old up.new down.old down.new
+        (result ≡ outcome.WireFault) }
+    ensures through { IsReadThrough result }
+    ensures said { IsSaid (ReportsOver W.honest W.sent W.given up.old up.new down.old down.new)
+        (Ok command.now) text.now (Gains O.put out.old out.new) result }
+{
+    match command {
+        Command::Show(shape) => give(show(alloc, shape, text), out),
+        Command::Write(shape) => give(write(alloc, shape, text), out),
+        Command::Replay => replay_text(alloc, text, out, up, down),
+    }
+}
+
+/// Writes what a command that uses no wires has made.
+fn give<O: Sink>(made: Result<Answer, OutOfMemory>, out: &mut O) -> Status
+    ensures write { Counts O.faults out.old out.new (result ≡ outcome.WriteFault) }
+    ensures given { WasGiven made (Gains O.put out.old out.new) result }
+{
+    match made {
+        Ok(Answer::Done(text)) => answer(out, &text, Status::Done),
+        Ok(Answer::Refused(text)) => answer(out, &text, Status::Refused),
+        Err(OutOfMemory) => Status::OutOfMemory,
     }
 }
 
@@ -108,7 +151,7 @@ fn replay_text<O: Sink, W: Wire>(
         (result ≡ outcome.WireFault) }
     ensures through { IsReadThrough result }
     ensures said { IsSaid (ReportsOver W.honest W.sent W.given up.old up.new down.old down.new)
-        (Some command.Replay) text.now (Gains O.put out.old out.new) result }
+        (Ok command.Replay) text.now (Gains O.put out.old out.new) result }
 {
     match read_schedule(alloc, text) {
         Ok(schedule) => match replay(alloc, &schedule, up, down) {
@@ -131,6 +174,23 @@ fn refuse<O: Sink>(alloc: Global, number: u64, out: &mut O) -> Status
     let mut line = Vec::new(alloc);
     match push_line_about(alloc, &mut line, number, NOT_IN_FORM) {
         Ok(()) => answer(out, &line, Status::Refused),
+        Err(OutOfMemory) => Status::OutOfMemory,
+    }
+}
+
+/// Writes why the word for a shape is refused.
+fn refuse_shape<O: Sink>(alloc: Global, error: &TextError, out: &mut O) -> Status
+    ensures write { Counts O.faults out.old out.new (result ≡ outcome.WriteFault) }
+    ensures answered { IsAnswered outcome.BadShape (shape_refused error.now)
+        (Gains O.put out.old out.new) result
+        ⊎ ((result ≡ outcome.OutOfMemory) × Gains O.put out.old out.new []) }
+{
+    if matches!(error, TextError::OutOfMemory) {
+        return Status::OutOfMemory;
+    }
+    let mut line = Vec::new(alloc);
+    match put_shape_refusal(error, &mut line) {
+        Ok(()) => answer(out, &line, Status::BadShape),
         Err(OutOfMemory) => Status::OutOfMemory,
     }
 }
