@@ -7,6 +7,7 @@ ghost use Rattle.bp_value.specs.Faults.{IsGood};
 ghost use Rattle.bp_value.specs.declared.shape.Shape.TheVariants as shp;
 ghost use Rattle.bp_text_grammar.specs.PrintedShapes.{shape_printed};
 ghost use Rattle.bp_text_grammar.specs.PrintedTexts.{shape_text};
+ghost use Rattle.bp_text_grammar.specs.WholeTexts.{IsShapeText};
 ghost use Rattle.bp_text.specs.Printing.{case_text, factors_text, field_text, lead, part_text, poly_text, AreGoodInside, Appends, IsGoodInside};
 
 use crate::printing::{append_byte, append_bytes, append_lead};
@@ -18,7 +19,8 @@ use std::alloc::Global;
 /// It goes over the shape once, and takes stack for each of its levels.
 pub fn print_shape(alloc: Global, shape: &Shape) -> Result<Vec<u8>, OutOfMemory>
     requires { IsGood (form_of shape.now) }
-    ensures { IfOk result (λ text. text.items ≡ shape_text shape.now) }
+    ensures text { IfOk result (λ text. text.items ≡ shape_text shape.now) }
+    ensures reads { IfOk result (λ text. IsShapeText shape.now text.items) }
 {
     let mut text = Vec::new(alloc);
     append_shape(shape, &mut text)?;

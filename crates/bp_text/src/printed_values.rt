@@ -5,10 +5,13 @@ ghost use Rattle.bp_value.specs.declared.value.Value.{out-Value};
 ghost use Rattle.bp_value.specs.declared.value.Value.TheVariants as val;
 ghost use Rattle.bp_value.specs.Form.{form_of, field_form, case_form, poly_form, parts, named_parts, cases};
 ghost use Rattle.bp_value.specs.Form as form;
+ghost use Rattle.bp_value.specs.Faults.{IsGood};
 ghost use Rattle.bp_value.specs.Fits.{Anything, IsMade};
+ghost use Rattle.readers.specs.Reader.{Each, IsByte};
 ghost use Rattle.bp_text_grammar.specs.Texts.{curly_open, round_close, round_open};
 ghost use Rattle.bp_text_grammar.specs.PrintedValues.{all_items, argument_pieces, bool_pieces, field_pieces, number_pieces, part_pieces, sexp_pieces};
 ghost use Rattle.bp_text_grammar.specs.PrintedTexts.{value_text};
+ghost use Rattle.bp_text_grammar.specs.WholeTexts.{IsValueText};
 ghost use Rattle.bp_text.specs.Printing.{lead, piece_bytes, Appends, AreOf, IsOf};
 
 use crate::contents::{
@@ -26,11 +29,21 @@ use std::alloc::Global;
 /// S-expression.
 pub fn print_value(alloc: Global, shape: &Shape, value: &Value) -> Result<Vec<u8>, OutOfMemory>
     requires { IsOf (form_of shape.now) value.now }
-    ensures { IfOk result (λ text. text.items ≡ value_text (form_of shape.now) value.now) }
+    ensures text { IfOk result (λ text. text.items ≡ value_text (form_of shape.now) value.now) }
+    ensures reads { let f = form_of shape.now in
+        IsGood f → IfOk result (λ text. IsValueText f value.now text.items) }
 {
     let mut text = Vec::new(alloc);
     append_value(shape, value, &mut text)?;
+    known(&text);
     Ok(text)
+}
+
+// What the type of bytes says of them, for the proof.
+fn known(bytes: &[u8])
+    ensures { Each IsByte bytes.now }
+{
+    let _ = bytes;
 }
 
 /// Appends the text of the value.

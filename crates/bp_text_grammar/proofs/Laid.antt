@@ -47,13 +47,16 @@ hex_is b lt =
       (b % 16, omega arith, (low, refl, glyph_is (b % 16) (omega arith))),
     )
 
+byte_is : (b : ℕ) → b < 256 → nat_lt b 256 ≡ true
+byte_is b lt = grind arith
+
 -- in either quotes
 escape_is : (q b : ℕ) → Is is_quoting q → b < 256 → InQuotes q b (escaped b)
 escape_is q b quotes lt = elim (is_or (is_quoting b)) [
   | inl e ↦ subst (λ s. InQuotes q b s) (sym (pick_true (is_quoting b) _ _ e)) (after_backslash e)
   | inr e ↦ subst (λ s. InQuotes q b s) (sym (pick_false (is_quoting b) _ _ e)) (elim (is_or (is_printable b)) [
     | inl p ↦ subst (λ s. InQuotes q b s) (sym (pick_true (is_printable b) _ _ p)) (itself e p)
-    | inr p ↦ subst (λ s. InQuotes q b s) (sym (pick_false (is_printable b) _ _ p)) in_hex
+    | inr p ↦ subst (λ s. InQuotes q b s) (sym (pick_false (is_printable b) _ _ p ∙ pick_true (nat_lt b 256) _ _ (byte_is b lt))) in_hex
   ])
 ]
   where
@@ -139,3 +142,39 @@ laid_lexes (t ∷ ts) s (x, b, r, cut, is, next, blanks, laid) =
 
 pub laid_lex : (ts : List Token) (s : List ℕ) → Laid ts s → map (λ u. u.token) (lex s) ≡ ts
 laid_lex ts s laid = let (us, lexes, same) = laid_lexes ts s laid in ap (λ vs. map (λ u. u.token) vs) (sym (lexes_lex us s lexes)) ∙ same
+
+-- ---- what is printed as bytes was of bytes
+
+pub each_left : {S : Type 0} (P : S → Type 0) (s t : List S) → Each P (s ++ t) → Each P s
+each_left P [] t each = tt
+each_left P (b ∷ s) t each = (each.0, each_left P s t each.1)
+
+pub each_right : {S : Type 0} (P : S → Type 0) (s t : List S) → Each P (s ++ t) → Each P t
+each_right P [] t each = each
+each_right P (b ∷ s) t each = each_right P s t each.1
+
+escaped_byte : (b : ℕ) → Each IsByte (escaped b) → IsByte b
+escaped_byte b each = elim (is_or (is_quoting b)) [
+  | inl e ↦ let out : Each IsByte (backslash ∷ b ∷ []) = subst (Each IsByte) (pick_true (is_quoting b) _ _ e) each in out.1.0
+  | inr e ↦ let rest = subst (Each IsByte) (pick_false (is_quoting b) _ _ e) each in elim (is_or (is_printable b)) [
+    | inl p ↦ let out : Each IsByte (b ∷ []) = subst (Each IsByte) (pick_true (is_printable b) _ _ p) rest in out.0
+    | inr p ↦ let last = subst (Each IsByte) (pick_false (is_printable b) _ _ p) rest in elim (is_or (nat_lt b 256)) [
+      | inl lt ↦ below lt
+      | inr not_lt ↦ let out : Each IsByte (b ∷ []) = subst (Each IsByte) (pick_false (nat_lt b 256) _ _ not_lt) last in out.0
+    ]
+  ]
+]
+  where
+    below : nat_lt b 256 ≡ true → b < 256
+    below lt = grind arith
+
+escaped_bytes : (bs : List ℕ) → Each IsByte (flat_map escaped bs) → Each IsByte bs
+escaped_bytes [] each = tt
+escaped_bytes (b ∷ bs) each =
+    (escaped_byte b (each_left IsByte (escaped b) (flat_map escaped bs) each), escaped_bytes bs (each_right IsByte (escaped b) (flat_map escaped bs) each))
+
+pub quoted_text_bytes : (bs : List ℕ) → Each IsByte (quoted_text bs) → Each IsByte bs
+quoted_text_bytes bs each = escaped_bytes bs (each_left IsByte (flat_map escaped bs) (quote ∷ []) each.1)
+
+pub quoted_char_byte : (b : ℕ) → Each IsByte (quoted_char b) → IsByte b
+quoted_char_byte b each = escaped_byte b (each_left IsByte (escaped b) (prime ∷ []) each.1)

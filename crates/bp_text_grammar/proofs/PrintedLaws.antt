@@ -1,6 +1,6 @@
 -- What is printed is a text of its value or shape, and of no other.
-use Rattle.std.proofs.Common.{◌≡◌, refl, sym, ap, ◌∙◌, subst, Bool, false, ◌||◌, ℕ, List, [], ◌∷◌, map}
-use Rattle.readers.specs.Reader.{Each, Any, Never}
+use Rattle.std.proofs.Common.{◌≡◌, refl, sym, ap, ◌∙◌, subst, Bool, false, ◌||◌, ℕ, List, [], ◌∷◌, ◌++◌, map}
+use Rattle.readers.specs.Reader.{Each, Any, IsByte, Never}
 use Rattle.bp_value.specs.declared.value.Value.{Value}
 use Rattle.bp_value.specs.declared.shape.Shape.{Shape}
 use Rattle.bp_value.specs.Form.{Form, form_of}
@@ -10,8 +10,10 @@ use Rattle.bp_text_grammar.specs.Tokens.{Token, Word, Number, Big, Text, Char, M
 use Rattle.bp_text_grammar.specs.Lexing.{Stamped}
 use Rattle.bp_text_grammar.specs.ValueTexts.{IsValueTokens}
 use Rattle.bp_text_grammar.specs.ShapeTexts.{IsShapeTokens}
-use Rattle.bp_text_grammar.specs.PrintedPieces.{Piece, tokens_of, IsWritten, AreLaid}
-use Rattle.bp_text_grammar.specs.PrintedValues.{value_pieces, value_tokens}
+use Rattle.bp_text_grammar.specs.PrintedPieces.{Piece, blank_if, bytes_of, token_bytes, tokens_of, IsWritten, AreLaid}
+use Rattle.bp_text_grammar.specs.Printed.{decimal_text, quoted_char, quoted_text}
+use Rattle.bp_text_grammar.proofs.Laid.{each_left, each_right, quoted_char_byte, quoted_text_bytes}
+use Rattle.bp_text_grammar.specs.PrintedValues.{value_pieces, value_text_of, value_tokens}
 use Rattle.bp_text_grammar.specs.PrintedShapes.{shape_pieces, shape_tokens}
 use Rattle.bp_text_grammar.specs.PrintedTexts.{IsOfBytes, value_text, shape_text}
 use Rattle.bp_text_grammar.specs.WholeTexts.{is_open, has_open, seen, kinds, IsValueText, IsShapeText}
@@ -57,12 +59,40 @@ laid_closed Q (p ∷ ps) (u ∷ us) laid same =
 
 -- ---- values
 
+-- what stands in the quotes of printed bytes is bytes
+piece_bytes : (t : Token) → Each IsByte (token_bytes quoted_text quoted_char decimal_text t) → IsOfBytes t
+piece_bytes (Text t) each = quoted_text_bytes t each
+piece_bytes (Char b) each = quoted_char_byte b each
+piece_bytes (Word w) each = tt
+piece_bytes (Number n) each = tt
+piece_bytes Big each = tt
+piece_bytes (Mark m) each = tt
+piece_bytes Wrong each = tt
+piece_bytes OpenText each = tt
+piece_bytes OpenChar each = tt
+
+pieces_bytes : (ps : List Piece) → Each IsByte (bytes_of quoted_text quoted_char decimal_text ps) → Each IsOfBytes (tokens_of ps)
+pieces_bytes [] each = tt
+pieces_bytes (p ∷ ps) each =
+    let rest = bytes_of quoted_text quoted_char decimal_text ps in
+    let own = token_bytes quoted_text quoted_char decimal_text p.1 in
+    let first = each_left IsByte (blank_if p.0 ++ own) rest each in
+    (piece_bytes p.1 (each_right IsByte (blank_if p.0) own first), pieces_bytes ps (each_right IsByte (blank_if p.0 ++ own) rest each))
+
+pub printed_bytes : (f : Form) (v : Value) → Each IsByte (value_text f v) → Each IsOfBytes (value_tokens f v)
+unfolding value_text value_text_of value_tokens
+printed_bytes f v each = pieces_bytes (value_pieces f v) each
+
 pub printed_value_reads : (m : ℕ) (f : Form) (v : Value) → IsGood f → Fits m f v → Each IsOfBytes (value_tokens f v) → IsValueText f v (value_text f v)
 unfolding value_tokens
 printed_value_reads m f v good fits each =
     let (us, lexes, same) = value_text_lexes m f v good fits each in
     let (closed, kept) = laid_closed Any (value_pieces f v) us (value_laid m f v good fits) same in
     record { tokens = us; lexed = lexes; closed = closed; spelled = subst (λ ts. IsValueTokens f v ts) (sym kept) (printed_value m f v good fits) }
+
+-- where the printed text is of bytes
+pub printed_value_is : (m : ℕ) (f : Form) (v : Value) → IsGood f → Fits m f v → Each IsByte (value_text f v) → IsValueText f v (value_text f v)
+printed_value_is m f v good fits bytes = printed_value_reads m f v good fits (printed_bytes f v bytes)
 
 -- a text is of one value
 pub value_text_once : (f : Form) (v w : Value) (s : List ℕ) → IsGood f → IsValueText f v s → IsValueText f w s → v ≡ w

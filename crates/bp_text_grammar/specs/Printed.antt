@@ -1,16 +1,18 @@
 -- How tokens are printed, and printed tokens one after another.
-use Rattle.std.specs.Prelude.{◌≡◌, ℕ, ℤ, ◌/◌, ◌%◌, true, if◌then◌else◌, List, [], ◌∷◌, ◌++◌}
+use Rattle.std.specs.Prelude.{◌≡◌, ℕ, ℤ, ◌/◌, ◌%◌, true, nat_lt, if◌then◌else◌, List, [], ◌∷◌, ◌++◌}
 use Rattle.std.specs.List.{flat_map}
 use Rattle.std.specs.Fmt.{signed_decimal, digit_glyph}
 use Rattle.bp_text_grammar.specs.Tokens.{Token}
 use Rattle.bp_text_grammar.specs.Lexing.{quote, prime, backslash, hex_mark, is_quoting, is_printable, IsToken, EndsBefore, AreBlanks}
 
--- a byte in quotes: both quotes and the backslash after a backslash, another printable byte as itself, and the others as two hex digits
+-- A byte in quotes: both quotes and the backslash after a backslash, another printable byte as itself, and the others as two hex
+-- digits. A number that is no byte stays as it is, so that what is printed as bytes was of bytes.
 abbrev pub escaped : ℕ → List ℕ
 escaped b =
     if is_quoting b then backslash ∷ b ∷ []
     else if is_printable b then b ∷ []
-    else backslash ∷ hex_mark ∷ digit_glyph true (b / 16) ∷ digit_glyph true (b % 16) ∷ []
+    else if nat_lt b 256 then backslash ∷ hex_mark ∷ digit_glyph true (b / 16) ∷ digit_glyph true (b % 16) ∷ []
+    else b ∷ []
 
 abbrev pub quoted_text : List ℕ → List ℕ
 quoted_text bs = quote ∷ flat_map escaped bs ++ quote ∷ []
