@@ -9,7 +9,10 @@ use std::test::Fail;
 fn shown(alloc: Global, text: &[u8]) -> Result<String, Fail> {
     let mut line = String::new(alloc);
     let mut cursor = Cursor::new(alloc, text)?;
-    while cursor.first().is_some() {
+    for _ in 0..text.len() {
+        if cursor.first().is_none() {
+            break;
+        }
         let left = cursor.left();
         let one = match taken(&mut cursor)? {
             Token::Word(word) => {

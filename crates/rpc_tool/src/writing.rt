@@ -17,9 +17,6 @@ use bp_text::{TextError, put_natural, read_value};
 use bp_value::{OutOfMemory, Shape, Value};
 use std::alloc::Global;
 
-#[cfg(test)]
-mod tests;
-
 /// Writes the hex of the shortest spelling of the value of a text. The time is linear in the text,
 /// and in the cases of a variant for each of its values.
 pub fn write(alloc: Global, shape: &Shape, input: &[u8]) -> Result<Answer, OutOfMemory>

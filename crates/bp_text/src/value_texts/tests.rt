@@ -11,11 +11,18 @@ fn check(
     shape: &Shape,
     rows: &[(&[u8], &str)],
 ) -> Result<(), Fail> {
+    shape.check()?;
     for (text, want) in rows {
         let got = format!(in alloc; "{:?}", read_value(alloc, shape, text))?;
         assert_eq!(rt; got.as_str(), *want);
     }
     Ok(())
+}
+
+/// Whether the text has a value of the shape.
+fn is_read(alloc: Global, shape: &Shape, text: &[u8]) -> Result<bool, Fail> {
+    shape.check()?;
+    Ok(read_value(alloc, shape, text).is_ok())
 }
 
 fn name(alloc: Global, bytes: &[u8]) -> Result<Blob, OutOfMemory> {
@@ -156,11 +163,12 @@ fn variants_are_read(rt: HostRuntime) -> Result<(), Fail> {
 #[test]
 fn an_s_expression_is_at_most_128_deep(rt: HostRuntime) -> Result<(), Fail> {
     let alloc = rt.alloc();
+    let shape = Shape::Sexp;
     let rows: [(&[u8], &str); 2] = [
         (br#"("a" ())"#, "Ok(Sexp(List([Atom(\"a\"), List([])])))"),
         (br#"("a""#, "Err(BadText { at: 4 })"),
     ];
-    check(&rt, alloc, &Shape::Sexp, &rows)?;
+    check(&rt, alloc, &shape, &rows)?;
     let mut text = Vec::new(alloc);
     for _ in 0..128 {
         text.push(b'(')?;
@@ -168,12 +176,12 @@ fn an_s_expression_is_at_most_128_deep(rt: HostRuntime) -> Result<(), Fail> {
     for _ in 0..128 {
         text.push(b')')?;
     }
-    assert!(&rt; read_value(alloc, &Shape::Sexp, text.as_slice()).is_ok());
+    assert!(&rt; is_read(alloc, &shape, text.as_slice())?);
     text.insert(0, b'(')?;
     check(
         &rt,
         alloc,
-        &Shape::Sexp,
+        &shape,
         &[(text.as_slice(), "Err(BadText { at: 128 })")],
     )
 }
