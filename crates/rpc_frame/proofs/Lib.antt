@@ -3,3 +3,4 @@ pub mod FrameReads
 pub mod FeedSteps
 pub mod HeldSteps
 pub mod Streams
+pub mod StreamBodies

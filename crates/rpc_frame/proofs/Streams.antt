@@ -32,7 +32,7 @@ pub front_start : (max : ℕ) → IsProperFront (IsFrame max) []
 front_start max = ([], 0, little_endian 7 0, (0, little_endian 8 0, [], sym (append-nil (little_endian 8 0)), (omega arith, lit< tt, refl), (refl, refl, tt)))
 
 -- what begins a frame has no frame in front
-front_none : (max : ℕ) (held body u : List ℕ) → IsProperFront (IsFrame max) held → IsFrame max body (frame body) → held ≡ frame body ++ u → ⊥
+pub front_none : (max : ℕ) (held body u : List ℕ) → IsProperFront (IsFrame max) held → IsFrame max body (frame body) → held ≡ frame body ++ u → ⊥
 front_none max held body u (other, b, x, spelled) is cut =
     let line : (held ++ b ∷ x) ++ [] ≡ frame body ++ (u ++ b ∷ x) = append-nil (held ++ b ∷ x) ∙ (ap (λ h. h ++ b ∷ x) cut ∙ append_assoc (frame body) u (b ∷ x)) in
     let (bodies, same) = prefix_free IsByte (IsFrame max) (FrameWhy max) (frame_at max) (right_frame max) other body (held ++ b ∷ x) (frame body) [] (u ++ b ∷ x) spelled is line in
