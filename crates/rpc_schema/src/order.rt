@@ -43,9 +43,7 @@ impl Ord for Listing {
     ghost matches_eq = { λ x y. refl };
 
     fn cmp(&self, other: &Listing) -> Ordering {
-        self.name
-            .as_slice()
-            .cmp(other.name.as_slice())
-            .then(self.version.cmp(&other.version))
+        let names = self.name.as_slice().cmp(other.name.as_slice());
+        names.then(self.version.cmp(&other.version))
     }
 }
