@@ -1,0 +1,9 @@
+pub mod PartLaws
+pub mod LineLaws
+pub mod TextParts
+pub mod Distinct
+pub mod TextLaws
+pub mod GoodLines
+pub mod Choices
+pub mod ReadingSteps
+pub mod MenuValues

@@ -1,0 +1,38 @@
+-- The lines of a text, and which of them say something.
+use Rattle.std.specs.Prelude.{ℕ, ◌+◌, Bool, true, not, nat_eq, List, [], ◌∷◌, filter}
+use Rattle.std.specs.List.{slice_split}
+
+-- ends a line, and begins a line that says nothing
+abbrev pub line_end : ℕ
+line_end = 0x0A
+
+abbrev pub comment_mark : ℕ
+comment_mark = 0x23
+
+abbrev pub without_last_empty : List (List ℕ) → List (List ℕ)
+without_last_empty [] = []
+without_last_empty ([] ∷ []) = []
+without_last_empty (line ∷ lines) = line ∷ without_last_empty lines
+
+-- the lines of a text: each ends with the byte 10, and the last may lack it
+abbrev pub lines_of : List ℕ → List (List ℕ)
+lines_of text = without_last_empty (slice_split (λ b. nat_eq b line_end) text)
+
+-- a line with its number
+pub record Numbered : Type 0 where
+  pub number : ℕ
+  pub bytes : List ℕ
+
+-- numbered one by one, from a number on
+abbrev pub numbered : ℕ → List (List ℕ) → List Numbered
+numbered n [] = []
+numbered n (l ∷ ls) = record { number = n; bytes = l } ∷ numbered (n + 1) ls
+
+-- an empty line, and a line that begins with `#`
+abbrev pub is_skipped : List ℕ → Bool
+is_skipped [] = true
+is_skipped (b ∷ l) = nat_eq b comment_mark
+
+-- the lines that say something, with their numbers in the text, which count from 1
+abbrev pub lines_read : List ℕ → List Numbered
+lines_read text = filter (λ l. not (is_skipped l.bytes)) (numbered 1 (lines_of text))

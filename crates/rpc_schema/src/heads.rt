@@ -1,0 +1,167 @@
+// What stands before the shapes of a line: how a procedure is called, its name and version, and who has it.
+ghost use Rattle.std.specs.Prelude.{◌≡◌, ◌≢◌, ◌↔◌, ℕ, ◌≤◌, ℤ, IsTrue, MatchOption};
+ghost use Rattle.std.specs.Fmt.{decimal};
+ghost use Rattle.readers.specs.Reader.{Each, Is};
+ghost use Rattle.rpc_schema.specs.Entries.{is_visible, IsRpcName};
+ghost use Rattle.rpc_schema.specs.LineParts.{Lacks};
+ghost use Rattle.rpc_schema.specs.LineAnswers.{Takes};
+ghost use Rattle.rpc_schema.specs.SchemaLines.{kind_word, side_word, IsKind, IsSide, IsName, IsVersionPart, IsSided, SidedRefused, IsVersioned, VersionedRefused, IsNamed, NamedRefused, IsHead, HeadRefused, SpellsVersion};
+ghost use Rattle.rpc_schema.specs.declared.desc.Kind.{Kind};
+ghost use Rattle.rpc_schema.specs.declared.desc.Side.{Side};
+
+use crate::desc::{Kind, Side};
+use crate::line::Line;
+use crate::menu::MENU_NAME;
+use crate::stop::Stop;
+use bp_value::Blob;
+use itoa::Buffer;
+use std::alloc::Global;
+use std::str;
+
+/// The greatest version.
+const MAX_VERSION: u64 = (1 << 62) - 1;
+
+/// The most bytes of a procedure's name.
+const MAX_NAME: usize = 255;
+
+/// What stands before the shapes.
+#[derive(Debug, Drop)]
+pub struct Head {
+    pub kind: Kind,
+    pub name: Blob,
+    pub version: i64,
+    pub side: Side,
+}
+
+/// Takes `KIND NAME VERSION SIDE =`.
+pub fn take_head(line: &mut Line, alloc: Global) -> Result<Head, Stop>
+    ensures { Takes IsHead HeadRefused line.old line.new result }
+{
+    let kind = kind(line)?;
+    named(line, kind, alloc)
+}
+
+// `NAME VERSION SIDE =`
+fn named(line: &mut Line, kind: Kind, alloc: Global) -> Result<Head, Stop>
+    ensures { Takes (IsNamed kind) NamedRefused line.old line.new result }
+{
+    let name = name(line, alloc)?;
+    versioned(line, kind, name)
+}
+
+// `VERSION SIDE =`
+fn versioned(line: &mut Line, kind: Kind, name: Blob) -> Result<Head, Stop>
+    ensures { Takes (IsVersioned kind name) VersionedRefused line.old line.new result }
+{
+    let version = version(line)?;
+    let side = sided(line)?;
+    Ok(Head {
+        kind,
+        name,
+        version,
+        side,
+    })
+}
+
+// `SIDE =`
+fn sided(line: &mut Line) -> Result<Side, Stop>
+    ensures { Takes IsSided SidedRefused line.old line.new result }
+{
+    let side = side(line)?;
+    line.take_mark(b"=")?;
+    Ok(side)
+}
+
+fn kind(line: &mut Line) -> Result<Kind, Stop>
+    ensures { Takes IsKind (Lacks IsKind) line.old line.new result }
+{
+    let kind = kind_named(line.word());
+    line.take_word(kind)
+}
+
+fn kind_named(word: &[u8]) -> Option<Kind>
+    ensures { MatchOption result ((kind : Kind) → word.now ≢ kind_word kind) (λ kind. word.now ≡ kind_word kind) }
+{
+    match word {
+        b"plain" => Some(Kind::Plain),
+        b"oneway" => Some(Kind::OneWay),
+        b"pipe" => Some(Kind::Pipe),
+        b"state" => Some(Kind::State),
+        _ => None,
+    }
+}
+
+fn side(line: &mut Line) -> Result<Side, Stop>
+    ensures { Takes IsSide (Lacks IsSide) line.old line.new result }
+{
+    let side = side_named(line.word());
+    line.take_word(side)
+}
+
+fn side_named(word: &[u8]) -> Option<Side>
+    ensures { MatchOption result ((side : Side) → word.now ≢ side_word side) (λ side. word.now ≡ side_word side) }
+{
+    match word {
+        b"both" => Some(Side::Both),
+        b"caller" => Some(Side::Caller),
+        b"callee" => Some(Side::Callee),
+        _ => None,
+    }
+}
+
+fn version(line: &mut Line) -> Result<i64, Stop>
+    ensures { Takes IsVersionPart (Lacks IsVersionPart) line.old line.new result }
+{
+    let version = version_named(line.word());
+    line.take_word(version)
+}
+
+fn version_named(word: &[u8]) -> Option<i64>
+    ensures { MatchOption result ((version : ℤ) → SpellsVersion version word.now → ⊥)
+        (λ version. SpellsVersion version word.now) }
+{
+    match number(word, MAX_VERSION) {
+        Some(n) => Some(n as i64),
+        None => None,
+    }
+}
+
+// A number of at most `max` in its one form: no sign, and no zero before another digit.
+fn number(word: &[u8], max: u64) -> Option<u64>
+    ensures { MatchOption result ((n : ℕ) → n ≤ max → word.now ≢ decimal n)
+        (λ n. (n ≤ max) × (word.now ≡ decimal n)) }
+{
+    let Ok(text) = str::from_utf8(word) else {
+        return None;
+    };
+    let Ok(n) = text.parse::<u64>() else {
+        return None;
+    };
+    if n <= max && Buffer::new().format(n) == text {
+        Some(n)
+    } else {
+        None
+    }
+}
+
+fn name(line: &mut Line, alloc: Global) -> Result<Blob, Stop>
+    ensures { Takes IsName (Lacks IsName) line.old line.new result }
+{
+    let mut behind = Line::new(line.rest());
+    behind.skip_blanks();
+    let name = behind.take_visible();
+    if !line.starts_blank() || !is_rpc_name(name) {
+        line.skip_blanks();
+        return Err(Stop::Refused);
+    }
+    *line = behind;
+    Ok(Blob::from_slice(alloc, name)?)
+}
+
+// Whether a run of visible bytes is a procedure's name.
+fn is_rpc_name(name: &[u8]) -> bool
+    requires { Each (Is is_visible) name.now }
+    ensures { IsTrue result ↔ IsRpcName name.now }
+{
+    !name.is_empty() && name.len() <= MAX_NAME && name != MENU_NAME
+}
