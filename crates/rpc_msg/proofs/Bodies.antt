@@ -77,7 +77,7 @@ sexp_value m s t v e = by (read_sexp m 128 s) e
 -- ---- whole bodies
 
 -- the reading of a form that can be read is right
-right_read : (m : ℕ) (f : Form) → IsRead f → Right IsByte Any (Spells m f) (FaultWhy m f) (read m f)
+pub right_read : (m : ℕ) (f : Form) → IsRead f → Right IsByte Any (Spells m f) (FaultWhy m f) (read m f)
 right_read m f is =
     right_fronts IsByte Any (Fronts m f) (Front (Spells m f)) (Spells m f) (FaultWhy m f) (read m f)
     (λ p. (fronts_are m f is p).0) (λ p. (fronts_are m f is p).1) (form_in m f is).right
