@@ -21,14 +21,28 @@ pub enum Command {
         set: Set,
         count: u32,
     },
+    /// Times so many readings of the stream that the input is.
+    Frames {
+        count: u32,
+    },
     /// Writes the bytes of a set.
     Make(Set),
+    /// Writes the bytes of a stream.
+    MakeFrames,
 }
 
 /// The command that the words name, if they name one.
 pub fn command_of(words: &[String]) -> Option<Command> {
     match words {
+        [make, set] if make.as_str() == "make" && set.as_str() == "frames" => {
+            Some(Command::MakeFrames)
+        }
         [make, set] if make.as_str() == "make" => Some(Command::Make(Set::named(set.as_str())?)),
+        [once, frames, count] if once.as_str() == "once" && frames.as_str() == "frames" => {
+            Some(Command::Frames {
+                count: count.as_str().parse().ok()?,
+            })
+        }
         [once, operation, set, count] if once.as_str() == "once" => Some(Command::Once {
             operation: Operation::named(operation.as_str())?,
             set: Set::named(set.as_str())?,

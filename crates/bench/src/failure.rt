@@ -1,5 +1,7 @@
 use bp_base::{ReadAllError, WriteFault};
 use bp_codec::EncodeError;
+use rpc_frame::FrameError;
+use rpc_msg::MsgError;
 use std::alloc::{AllocError, AllocFailed};
 use std::io;
 use thiserror::Error;
@@ -7,7 +9,7 @@ use thiserror::Error;
 /// Why a run ended without its answer.
 #[derive(Clone, Copy, Debug, PartialEq, Eq, Error)]
 pub enum Failure {
-    #[error("usage: bench once decode|encode strings|ints|records K | make strings|ints|records")]
+    #[error("usage: bench once decode|encode SET K | once frames K | make SET | make frames")]
     Usage,
     #[error("the input is no value of the set: its byte {at}, counted from 0, is at fault")]
     BadByte { at: usize },
@@ -15,6 +17,8 @@ pub enum Failure {
     Cut,
     #[error("the input is no value of the set: it goes on after one")]
     Longer,
+    #[error("the input is no stream of messages")]
+    BadStream,
     /// A shape or a value of the program's own is refused. It never comes to that.
     #[error("the set is no list of values of its shape")]
     Unfit,
@@ -34,7 +38,11 @@ impl Failure {
     /// The exit status: as those of the program `rpc`, and 8 where the clock failed.
     pub fn code(self) -> u8 {
         match self {
-            Failure::BadByte { .. } | Failure::Cut | Failure::Longer | Failure::Unfit => 1,
+            Failure::BadByte { .. }
+            | Failure::Cut
+            | Failure::Longer
+            | Failure::BadStream
+            | Failure::Unfit => 1,
             Failure::Usage => 2,
             Failure::ReadFault => 3,
             Failure::WriteFault => 4,
@@ -84,6 +92,24 @@ impl From<EncodeError> for Failure {
         match error {
             EncodeError::TooLong { .. } => Failure::Unfit,
             EncodeError::OutOfMemory => Failure::OutOfMemory,
+        }
+    }
+}
+
+impl From<FrameError> for Failure {
+    fn from(error: FrameError) -> Failure {
+        match error {
+            FrameError::Failed { .. } | FrameError::TooLong { .. } => Failure::BadStream,
+            FrameError::OutOfMemory => Failure::OutOfMemory,
+        }
+    }
+}
+
+impl From<MsgError> for Failure {
+    fn from(error: MsgError) -> Failure {
+        match error {
+            MsgError::Fault(_) => Failure::BadStream,
+            MsgError::OutOfMemory => Failure::OutOfMemory,
         }
     }
 }

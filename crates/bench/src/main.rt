@@ -1,5 +1,5 @@
-//! The program `bench`: how long the codec takes over three sets of values, and the bytes of these
-//! sets.
+//! The program `bench`: how long the codec takes over three sets of values and the reading of a
+//! stream of messages, and the bytes of these.
 #![tactic(auto)]
 
 mod command;
@@ -7,6 +7,7 @@ mod failure;
 mod making;
 mod numbers;
 mod set;
+mod streams;
 mod timing;
 
 use bp_base::{Finished, Sink, StreamSink, StreamSource, read_all, write_all};
@@ -48,7 +49,15 @@ fn run(rt: &HostRuntime) -> Result<(), Failure> {
             let line = println!(rt; "{operation} {set} {count} {seconds}.{micros:06}");
             line.map_err(|_| Failure::WriteFault)
         }
-        Some(Command::Make(set)) => make(rt, set),
+        Some(Command::Frames { count }) => {
+            let stream = read_input(rt)?;
+            let took = streams::read_time(rt, rt.alloc(), &stream, count)?;
+            let (seconds, micros) = (took.as_secs(), took.subsec_micros());
+            let line = println!(rt; "frames {count} {seconds}.{micros:06}");
+            line.map_err(|_| Failure::WriteFault)
+        }
+        Some(Command::Make(set)) => put(rt, &making::bytes_of(rt.alloc(), set)?),
+        Some(Command::MakeFrames) => put(rt, &streams::stream(rt.alloc())?),
         None => Err(Failure::Usage),
     }
 }
@@ -61,7 +70,7 @@ fn measured(
     count: u32,
 ) -> Result<Duration, Failure> {
     let alloc = rt.alloc();
-    let bytes = read_all(alloc, &mut StreamSource::new(rt.stdin()), MAX_INPUT)?;
+    let bytes = read_input(rt)?;
     let shape = set.shape(alloc)?;
     shape.check().map_err(|_| Failure::Unfit)?;
     match operation {
@@ -73,11 +82,16 @@ fn measured(
     }
 }
 
-/// Writes the bytes of a set to standard output.
-fn make(rt: &HostRuntime, set: Set) -> Result<(), Failure> {
-    let bytes = making::bytes_of(rt.alloc(), set)?;
+/// All of standard input.
+fn read_input(rt: &HostRuntime) -> Result<Vec<u8>, Failure> {
+    let mut input = StreamSource::new(rt.stdin());
+    Ok(read_all(rt.alloc(), &mut input, MAX_INPUT)?)
+}
+
+/// Writes bytes to standard output.
+fn put(rt: &HostRuntime, bytes: &[u8]) -> Result<(), Failure> {
     let mut out = StreamSink::new(rt.stdout());
-    write_all(&mut out, &bytes)?;
+    write_all(&mut out, bytes)?;
     match out.finish() {
         Finished::Done => Ok(()),
         Finished::Failed => Err(Failure::WriteFault),

@@ -45,14 +45,18 @@ fn item(alloc: Global, set: Set, numbers: &mut Numbers) -> Result<Value, OutOfMe
     }
 }
 
-/// A text of 0 to 15 letters.
 fn text(alloc: Global, numbers: &mut Numbers) -> Result<Value, OutOfMemory> {
+    Ok(Value::Text(letters(alloc, numbers)?))
+}
+
+/// 0 to 15 letters.
+pub fn letters(alloc: Global, numbers: &mut Numbers) -> Result<Blob, OutOfMemory> {
     let mut letters = [0; MAX_LETTERS];
     let length = numbers.between(0, MAX_LETTERS as u64 + 1) as usize;
     for letter in letters[..length].iter_mut() {
         *letter = numbers.between(u64::from(b'a'), u64::from(b'z') + 1) as u8;
     }
-    Ok(Value::Text(Blob::from_slice(alloc, &letters[..length])?))
+    Blob::from_slice(alloc, &letters[..length])
 }
 
 /// An int: half of them are spelled by one byte, and the others by three, five or nine bytes, as

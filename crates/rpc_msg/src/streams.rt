@@ -130,7 +130,7 @@ fn part_at(rest: &mut &[u8], max_len: u64) -> Result<Option<usize>, Stop>
 
 impl MsgFault {
     /// The fault of data that stands behind so many bytes.
-    fn behind(self, front: u64) -> MsgFault
+    pub fn behind(self, front: u64) -> MsgFault
         requires { place_of_fault self + front < 2 ^ 64 }
         ensures { result ≡ behind front self }
     {

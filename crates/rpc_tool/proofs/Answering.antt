@@ -1,9 +1,10 @@
 -- From what was written to what the status means.
-use Rattle.std.proofs.Common.{arith, ◌≡◌, ◌<◌, ℕ, List, [], length, take, refl, sym, ◌∙◌, subst, inl, inr}
+use Rattle.std.proofs.Common.{arith, ◌≡◌, ◌<◌, ℕ, List, [], ◌∷◌, length, take, codes, refl, sym, ap, ◌∙◌, subst, inl, inr}
 use Rattle.std.specs.Prelude.{Option, Some, None, String, ◌⊎◌, ◌↔◌, IfOk, IfSome, Result, Ok, Err}
 use Rattle.std.specs.declared.alloc.Global.{Global}
 use Rattle.std.proofs.lemmas.List.{take_all}
 use Rattle.rpc_world.specs.declared.schedule.Schedule.{Schedule}
+use Rattle.rpc_world.specs.Input.{IsInput}
 use Rattle.rpc_tool.specs.declared.command.Command.{Command}
 use Rattle.rpc_tool.specs.declared.command.Misuse.{Misuse}
 use Rattle.rpc_tool.specs.declared.command.Misuse.TheVariants as misuse
@@ -14,7 +15,7 @@ use Rattle.rpc_tool.specs.Answers.{Answers}
 use Rattle.rpc_tool.specs.declared.status.Status.{Status}
 use Rattle.rpc_tool.specs.declared.status.Status.TheVariants.{Done, Refused, BadShape, Usage, ReadFault, WriteFault, WireFault, OutOfMemory, TooLong}
 use Rattle.rpc_tool.specs.Commands.{IsNamed, IsDone, IsRefusal, IsReplay}
-use Rattle.rpc_tool.specs.declared.command.Command.TheVariants.{Show, Write, Replay}
+use Rattle.rpc_tool.specs.declared.command.Command.TheVariants.{Show, Write, Frames, Replay}
 use Rattle.rpc_tool.specs.Limits.{most_input}
 use Rattle.rpc_tool.specs.Means.{code_of, IsAnswer, IsSaid, IsAnswered, WasGiven, IsReadThrough, IsReadWhole, IsReportOf, IsReportOfInput, MayRunOut, Means}
 
@@ -128,6 +129,73 @@ stopped Reports Comes left Ended Writes words named status bytes is_named came t
   ended = λ whole. absurd (cut whole);
   said = said;
 }
+
+-- ---- a replay that was done
+
+abbrev first_byte : List (List ℕ) → ℕ
+first_byte [] = 0
+first_byte ([] ∷ words) = 0
+first_byte ((b ∷ word) ∷ words) = b
+
+-- the words of a replay name no other command
+replay_named : (words : List (String Global)) (named : Result Command Misuse) → IsNamed words named → IsReplay words → named ≡ Ok Replay
+replay_named words (Ok Replay) is replay = refl
+replay_named words (Ok Frames) is replay = absurd (apart (sym is ∙ replay))
+  where
+    apart : ◌≡◌ {A = List (List ℕ)} (codes "frames" ∷ []) (codes "replay" ∷ []) → ⊥
+    apart e = let letters : 102 ≡ 114 = ap first_byte e in omega (arith, letters)
+replay_named words (Ok (Show shape)) (word, is, good) replay = absurd (apart word (sym is ∙ replay))
+  where
+    apart : (word : List ℕ) → ◌≡◌ {A = List (List ℕ)} (codes "show" ∷ word ∷ []) (codes "replay" ∷ []) → ⊥
+    apart word e = cc
+replay_named words (Ok (Write shape)) (word, is, good) replay = absurd (apart word (sym is ∙ replay))
+  where
+    apart : (word : List ℕ) → ◌≡◌ {A = List (List ℕ)} (codes "write" ∷ word ∷ []) (codes "replay" ∷ []) → ⊥
+    apart word e = cc
+replay_named words (Err misuse.Usage) is replay = absurd (is (inr (inl replay)))
+replay_named words (Err (misuse.BadShape error)) (word, inl is, refuses) replay = absurd (apart word (sym is ∙ replay))
+  where
+    apart : (word : List ℕ) → ◌≡◌ {A = List (List ℕ)} (codes "show" ∷ word ∷ []) (codes "replay" ∷ []) → ⊥
+    apart word e = cc
+replay_named words (Err (misuse.BadShape error)) (word, inr is, refuses) replay = absurd (apart word (sym is ∙ replay))
+  where
+    apart : (word : List ℕ) → ◌≡◌ {A = List (List ℕ)} (codes "write" ∷ word ∷ []) (codes "replay" ∷ []) → ⊥
+    apart word e = cc
+
+done_code : (s : Status) → code_of s ≡ code_of Done → s ≡ Done
+done_code Done e = refl
+done_code Refused e = absurd (omega (arith, e))
+done_code BadShape e = absurd (omega (arith, e))
+done_code Usage e = absurd (omega (arith, e))
+done_code ReadFault e = absurd (omega (arith, e))
+done_code WriteFault e = absurd (omega (arith, e))
+done_code WireFault e = absurd (omega (arith, e))
+done_code OutOfMemory e = absurd (omega (arith, e))
+done_code TooLong e = absurd (omega (arith, e))
+
+-- its report is of the schedule that the input spells
+module _ (Reports Other : Schedule → List ℕ → Type 0) (turn : (s : Schedule) (text : List ℕ) → Reports s text → Other s text) (left : Option (List ℕ))
+    (Writes : List ℕ → Type 0) where
+  report_of : (bytes : List ℕ) → IsSaid Reports (Ok Replay) bytes Writes Done → IfSome left (λ text. bytes ≡ text) → IsReportOfInput Other left Writes
+  report_of bytes (report, (s, spelled, reported), written) whole = by left whole
+    where
+      by : (left : Option (List ℕ)) → IfSome left (λ text. bytes ≡ text) → IsReportOfInput Other left Writes
+      by None whole = tt
+      by (Some text) whole = record {
+        schedule = s;
+        spelled = subst (λ t. IsInput t s) whole spelled;
+        report = report;
+        reported = turn s report reported;
+        written = written;
+      }
+
+  pub replay_reports : (Comes : List ℕ → Type 0) (Ended : Type 0) (words : List (String Global)) (code : ℕ) → Means Reports Comes left Ended Writes words code
+      → IsReplay words → code ≡ code_of Done → IsReportOfInput Other left Writes
+  replay_reports Comes Ended words code m replay done =
+      let status = done_code m.status (sym m.coded ∙ done) in
+      let said = subst (λ n. IsSaid Reports n m.bytes Writes Done) (replay_named words m.named m.is_named replay)
+      (subst (λ z. IsSaid Reports m.named m.bytes Writes z) status m.said) in
+      report_of m.bytes said (m.whole (subst (λ z. IsReadWhole z) (sym status) tt))
 
 -- ---- from the bytes that came to the whole input
 

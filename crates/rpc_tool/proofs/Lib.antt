@@ -18,3 +18,7 @@ pub mod SpelledFits
 pub mod HexTexts
 pub mod HexDigits
 pub mod LineEnds
+pub mod StreamSteps
+pub mod VersionTexts
+pub mod OneMessage
+pub mod OneStream

@@ -9,9 +9,10 @@ use Rattle.bp_text.specs.TextAnswers.{RefusesShape}
 use Rattle.rpc_world.specs.declared.schedule.Schedule.{Schedule}
 use Rattle.rpc_world.specs.Input.{IsInput, IsBadLine}
 use Rattle.rpc_world.specs.Report.{line_about}
+use Rattle.rpc_tool.specs.StreamReads.{AreFramesTold, AreFramesRefused}
 use Rattle.rpc_tool.specs.ValueCommands.{IsShown, IsShowRefusal, IsWrittenOut, IsWriteRefusal}
 use Rattle.rpc_tool.specs.declared.command.Command.{Command}
-use Rattle.rpc_tool.specs.declared.command.Command.TheVariants.{Show, Write, Replay}
+use Rattle.rpc_tool.specs.declared.command.Command.TheVariants.{Show, Write, Frames, Replay}
 use Rattle.rpc_tool.specs.declared.command.Misuse.{Misuse}
 use Rattle.rpc_tool.specs.declared.command.Misuse.TheVariants.{Usage, BadShape}
 
@@ -27,12 +28,13 @@ AreWithShape word words = (words ≡ codes "show" ∷ word ∷ []) ⊎ (words �
 
 -- words of a form
 abbrev pub AreOfForm : List (List ℕ) → Type 0
-AreOfForm words = (words ≡ codes "replay" ∷ []) ⊎ ((word : List ℕ) × AreWithShape word words)
+AreOfForm words = (words ≡ codes "frames" ∷ []) ⊎ ((words ≡ codes "replay" ∷ []) ⊎ ((word : List ℕ) × AreWithShape word words))
 
 -- the words of a command
 abbrev pub AreWordsOf : Command → List (List ℕ) → Type 0
 AreWordsOf (Show shape) words = (word : List ℕ) × (words ≡ codes "show" ∷ word ∷ []) × NamesShape shape word
 AreWordsOf (Write shape) words = (word : List ℕ) × (words ≡ codes "write" ∷ word ∷ []) × NamesShape shape word
+AreWordsOf Frames words = words ≡ codes "frames" ∷ []
 AreWordsOf Replay words = words ≡ codes "replay" ∷ []
 
 abbrev pub IsReplay : List (String Global) → Type 0
@@ -42,6 +44,7 @@ IsReplay words = AreWordsOf Replay (map string_bytes words)
 abbrev pub IsOfGoodShape : Command → Type 0
 IsOfGoodShape (Show shape) = IsGood (form_of shape)
 IsOfGoodShape (Write shape) = IsGood (form_of shape)
+IsOfGoodShape Frames = Unit {0}
 IsOfGoodShape Replay = Unit {0}
 
 -- the command of some words, or why they have none
@@ -66,6 +69,7 @@ IsShapeNamed word (Err (BadShape error)) = RefusesShape (string_bytes word) erro
 abbrev pub IsDone : (Schedule → List ℕ → Type 0) → Command → List ℕ → List ℕ → Type 0
 IsDone Reports (Show shape) input text = IsShown (form_of shape) input text
 IsDone Reports (Write shape) input text = IsWrittenOut (form_of shape) input text
+IsDone Reports Frames input text = AreFramesTold input text
 IsDone Reports Replay input text = (s : Schedule) × IsInput input s × Reports s text
 
 -- the line about a line of a schedule that is none
@@ -76,10 +80,12 @@ refused_line number = line_about number (codes "not in the first path")
 abbrev pub IsRefusal : Command → List ℕ → List ℕ → Type 0
 IsRefusal (Show shape) input text = IsShowRefusal (form_of shape) input text
 IsRefusal (Write shape) input text = IsWriteRefusal (form_of shape) input text
+IsRefusal Frames input text = AreFramesRefused input text
 IsRefusal Replay input text = (number : ℕ) × IsBadLine input number × (text ≡ refused_line number)
 
 -- a command comes to use its wires for an input
 abbrev pub MeetsWires : Command → List ℕ → Type 0
 MeetsWires (Show shape) input = ⊥
 MeetsWires (Write shape) input = ⊥
+MeetsWires Frames input = ⊥
 MeetsWires Replay input = (s : Schedule) × IsInput input s

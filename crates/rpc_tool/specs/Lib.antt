@@ -8,6 +8,8 @@ pub mod Replayed
 pub mod Input
 pub mod HexTexts
 pub mod ValueCommands
+pub mod StreamLines
+pub mod StreamReads
 pub mod Answers
 pub mod ShapeRefusals
 pub mod Commands

@@ -12,6 +12,8 @@ pub enum Command {
     Show(Shape),
     /// Writes the hex of the bytes that spell the value of a text.
     Write(Shape),
+    /// Writes a line for each message of the stream that the bytes of a hex text are.
+    Frames,
     /// Replays a schedule over two wires.
     Replay,
 }
@@ -30,6 +32,7 @@ pub fn command_of(alloc: Global, words: &[String]) -> Result<Command, Misuse>
     ensures { IsNamed words.now result }
 {
     match words {
+        [name] if name.as_str() == "frames" => Ok(Command::Frames),
         [name] if name.as_str() == "replay" => Ok(Command::Replay),
         [name, shape] if name.as_str() == "show" => Ok(Command::Show(shape_of(alloc, shape)?)),
         [name, shape] if name.as_str() == "write" => Ok(Command::Write(shape_of(alloc, shape)?)),

@@ -98,7 +98,8 @@ fn shown(alloc: Global, shape: &Shape, value: &Value, count: usize) -> Result<Ve
     Ok(text)
 }
 
-fn hex_line(alloc: Global, at: usize) -> Result<Vec<u8>, OutOfMemory>
+/// The line about a text that is no hex.
+pub fn hex_line(alloc: Global, at: usize) -> Result<Vec<u8>, OutOfMemory>
     ensures { IfOk result (λ text. text.items ≡ hex_refused at) }
 {
     let mut text = Vec::new(alloc);

@@ -3,6 +3,7 @@ use bp_base::{BentWire, MemSink, MemSource, MemWire, Wire};
 use std::alloc::{AllocError, Global};
 use std::test::Fail;
 
+mod streams;
 mod values;
 
 const SCHEDULE: &str = "plain echo 1 both = string -> string\n--\nup all\ndown all\n\
@@ -67,22 +68,30 @@ fn replay_over<W: Wire>(
     Ok((status, out.bytes().to_vec(alloc)?))
 }
 
-/// The status of a replay of the text over two honest wires, and what it writes.
-fn replay_text(alloc: Global, text: &str) -> Result<(u8, Vec<u8>), Fail> {
-    let mut up = MemWire::new(alloc, Vec::new(alloc));
-    let mut down = MemWire::new(alloc, Vec::new(alloc));
-    replay_over(alloc, text, &mut up, &mut down)
-}
-
-/// The status of a replay of the schedule with some faults, and what it writes.
-fn replay_with(alloc: Global, faults: Faults) -> Result<(u8, Vec<u8>), Fail> {
-    let words = words(alloc, &["replay"])?;
-    let mut input = source(alloc, SCHEDULE.as_bytes(), faults.source)?;
+/// The status of a run with some faults, and what it writes.
+fn run_with(
+    alloc: Global,
+    texts: &[&str],
+    input: &[u8],
+    faults: Faults,
+) -> Result<(u8, Vec<u8>), Fail> {
+    let words = words(alloc, texts)?;
+    let mut input = source(alloc, input, faults.source)?;
     let mut out = MemSink::new(alloc, 4096, faults.sink)?;
     let mut up = MemWire::new(alloc, faults.up);
     let mut down = MemWire::new(alloc, faults.down);
     let status = run(alloc, &words, &mut input, &mut out, &mut up, &mut down);
     Ok((status, out.bytes().to_vec(alloc)?))
+}
+
+/// The status of a replay of the text over two honest wires, and what it writes.
+fn replay_text(alloc: Global, text: &str) -> Result<(u8, Vec<u8>), Fail> {
+    run_with(alloc, &["replay"], text.as_bytes(), Faults::none(alloc))
+}
+
+/// The status of a replay of the schedule with some faults, and what it writes.
+fn replay_with(alloc: Global, faults: Faults) -> Result<(u8, Vec<u8>), Fail> {
+    run_with(alloc, &["replay"], SCHEDULE.as_bytes(), faults)
 }
 
 #[test]
@@ -331,15 +340,10 @@ fn refuses_other_words_and_too_long_an_input(rt: HostRuntime) -> Result<(), Fail
         (&["replay"], (1 << 26) + 1, 7, b""),
     ];
     for (texts, length, status, report) in commands {
-        let words = words(alloc, texts)?;
         let text = vec![in alloc; b'a'; length]?;
-        let mut input = source(alloc, &text, Vec::new(alloc))?;
-        let mut out = MemSink::new(alloc, 4096, Vec::new(alloc))?;
-        let mut up = MemWire::new(alloc, Vec::new(alloc));
-        let mut down = MemWire::new(alloc, Vec::new(alloc));
-        let answer = run(alloc, &words, &mut input, &mut out, &mut up, &mut down);
+        let (answer, written) = run_with(alloc, texts, &text, Faults::none(alloc))?;
         assert_eq!(rt; answer, status);
-        assert_eq!(rt; out.bytes(), report);
+        assert_eq!(rt; written.as_slice(), report);
     }
     Ok(())
 }

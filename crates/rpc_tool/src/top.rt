@@ -14,6 +14,7 @@ ghost use Rattle.rpc_tool.specs.Means.{code_of, ReportsOver, MeansFor, MeansOf, 
 use crate::answers::Answer;
 use crate::command::{Command, Misuse, command_of};
 use crate::failure::Failure;
+use crate::framing::frames;
 use crate::input::{InputError, read_schedule};
 use crate::replay::replay;
 use crate::report::push_line_about;
@@ -122,6 +123,7 @@ fn perform<O: Sink, W: Wire>(
     match command {
         Command::Show(shape) => give(show(alloc, shape, text), out),
         Command::Write(shape) => give(write(alloc, shape, text), out),
+        Command::Frames => give(frames(alloc, text), out),
         Command::Replay => replay_text(alloc, text, out, up, down),
     }
 }

@@ -40,24 +40,6 @@ fn repeated(
 }
 
 #[test]
-fn values_are_shown(rt: HostRuntime) -> Result<(), Fail> {
-    let alloc = rt.alloc();
-    assert!(rt; shows(alloc, b"int", b"05", b"5\n1 bytes\n")?);
-    assert!(rt; shows(alloc, b"int", b"FE 05 00\n", b"5\n3 bytes\n")?);
-    Ok(())
-}
-
-#[test]
-fn what_spells_no_value_is_refused(rt: HostRuntime) -> Result<(), Fail> {
-    let alloc = rt.alloc();
-    assert!(rt; refuses(alloc, b"int", b"05 05", b"trailing at 1\n")?);
-    assert!(rt; refuses(alloc, b"int", b"", b"cut at 0\n")?);
-    assert!(rt; refuses(alloc, b"int", b"ff05", b"refused at 1: sign\n")?);
-    assert!(rt; refuses(alloc, b"int", b"05 0g", b"input: bad hex at 4\n")?);
-    Ok(())
-}
-
-#[test]
 fn places_count_in_all_pieces(rt: HostRuntime) -> Result<(), Fail> {
     let alloc = rt.alloc();
     // The head has three bytes, and announces 8997.

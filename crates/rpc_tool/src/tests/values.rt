@@ -1,18 +1,10 @@
-use super::{source, words};
-use crate::run;
-use bp_base::{MemSink, MemWire};
+use super::{Faults, run_with};
 use std::alloc::Global;
 use std::test::Fail;
 
 /// The status of a command on an input, and what it writes.
 fn obeyed(alloc: Global, command: &str, shape: &str, input: &[u8]) -> Result<(u8, Vec<u8>), Fail> {
-    let words = words(alloc, &[command, shape])?;
-    let mut input = source(alloc, input, Vec::new(alloc))?;
-    let mut out = MemSink::new(alloc, 4096, Vec::new(alloc))?;
-    let mut up = MemWire::new(alloc, Vec::new(alloc));
-    let mut down = MemWire::new(alloc, Vec::new(alloc));
-    let status = run(alloc, &words, &mut input, &mut out, &mut up, &mut down);
-    Ok((status, out.bytes().to_vec(alloc)?))
+    run_with(alloc, &[command, shape], input, Faults::none(alloc))
 }
 
 /// A shape, an input, the status, and what is written.
@@ -136,20 +128,21 @@ fn a_shape_is_refused_before_the_input_is_read(rt: HostRuntime) -> Result<(), Fa
         ("[`azdwbie | `c7diagq]", "shape: not good: tag clash 0 1\n"),
     ];
     for (shape, text) in rows {
-        let words = words(alloc, &["show", shape])?;
         // The first read would fail.
-        let mut input = source(alloc, b"00", [0].to_vec(alloc)?)?;
-        let mut out = MemSink::new(alloc, 4096, Vec::new(alloc))?;
-        let mut up = MemWire::new(alloc, Vec::new(alloc));
-        let mut down = MemWire::new(alloc, Vec::new(alloc));
-        let status = run(alloc, &words, &mut input, &mut out, &mut up, &mut down);
+        let faults = Faults {
+            source: [0].to_vec(alloc)?,
+            ..Faults::none(alloc)
+        };
+        let (status, written) = run_with(alloc, &["show", shape], b"00", faults)?;
         assert_eq!(rt; status, 1);
-        assert_eq!(rt; out.bytes(), text.as_bytes());
+        assert_eq!(rt; written.as_slice(), text.as_bytes());
         // Where writing fails, the status is that of it.
-        let mut out = MemSink::new(alloc, 4096, [0].to_vec(alloc)?)?;
-        let status = run(alloc, &words, &mut input, &mut out, &mut up, &mut down);
-        assert_eq!(rt; status, 4);
-        assert_eq!(rt; out.bytes(), b"".as_slice());
+        let faults = Faults {
+            sink: [0].to_vec(alloc)?,
+            ..Faults::none(alloc)
+        };
+        let (status, written) = run_with(alloc, &["show", shape], b"00", faults)?;
+        assert_eq!(rt; (status, written.len()), (4, 0));
     }
     Ok(())
 }

@@ -2,7 +2,7 @@ use Rattle.std.proofs.Common.{sym}
 use Rattle.std.specs.Prelude.{Ok}
 use Rattle.bp_base.specs.Told.{Gains}
 use Rattle.rpc_tool.specs.Means.{ReportsOver, IsSaid}
-use Rattle.rpc_tool.specs.declared.command.Command.TheVariants.{Show, Write, Replay}
+use Rattle.rpc_tool.specs.declared.command.Command.TheVariants.{Show, Write, Frames, Replay}
 use Rattle.rpc_tool.proofs.Answering.{given_said, given_through}
 use Rattle.rpc_tool.proofs.top.perform.Goals as goal
 
@@ -18,3 +18,10 @@ returns-in-Write-clause-said g c =
     let Writes = Gains g.O.Sink.put c.args.out.now c.give-in-Write.new.out in
     rw c.in-Write.is
     (given_said Reports (Write c.in-Write.shape) c.args.text.now Writes c.write.result c.give-in-Write.result c.write.ensures c.give-in-Write.ensures.given)
+
+pub returns-in-Frames-clause-said : goal.returns-in-Frames-clause-said
+returns-in-Frames-clause-said g c =
+    let Reports = ReportsOver g.W.Wire.honest g.W.Wire.sent g.W.Wire.given c.args.up.now c.args.up.now c.args.down.now c.args.down.now in
+    let Writes = Gains g.O.Sink.put c.args.out.now c.give-in-Frames.new.out in
+    rw c.in-Frames.is
+    (given_said Reports Frames c.args.text.now Writes c.frames.result c.give-in-Frames.result c.frames.ensures c.give-in-Frames.ensures.given)

@@ -1,12 +1,13 @@
-use Rattle.std.proofs.Common.{arith, refl, subst, sym, []}
+use Rattle.std.proofs.Common.{arith, refl, subst, sym, ◌∙◌, []}
 use Rattle.std.specs.Prelude.{Err}
 use Rattle.rpc_tool.specs.declared.command.Misuse.TheVariants as misuse
 use Rattle.rpc_tool.specs.declared.status.Status.TheVariants.{BadShape, Usage, ReadFault, WriteFault, WireFault}
 use Rattle.bp_base.specs.Told.{Gains}
 use Rattle.bp_base.specs.Whole.{Came}
 use Rattle.bp_base.proofs.Runs.{Came-nil}
-use Rattle.rpc_tool.specs.Means.{ReportsOver, Means}
-use Rattle.rpc_tool.proofs.Answering.{answered_said, refused_said, stopped, before_read, before_refused, before_short, before_whole}
+use Rattle.rpc_tool.specs.Means.{code_of, ReportsOver, Means}
+use Rattle.rpc_tool.specs.Replayed.{ReportedOver, ReplayedOver}
+use Rattle.rpc_tool.proofs.Answering.{answered_said, refused_said, replay_reports, stopped, before_read, before_refused, before_short, before_whole}
 use Rattle.rpc_tool.proofs.Codes.{read_code, write_code, wire_code, coded_counts, coded_both}
 use Rattle.rpc_tool.proofs.top.run.Goals as goal
 
@@ -58,3 +59,19 @@ returns-in-Err-Usage-clause-means g c =
     (λ long. absurd (before_short _ before long), λ long. absurd (omega (arith, long)))
     (before_whole _ before)
     (answered_said Reports (Err misuse.Usage) [] Writes Usage _ c.answer.result refl answered))
+
+pub returns-in-Ok-clause-reported : goal.returns-in-Ok-clause-reported
+returns-in-Ok-clause-reported g c = λ done fresh.
+    let Reports = ReportsOver g.W.Wire.honest g.W.Wire.sent g.W.Wire.given c.args.up.now c.obey.new.up c.args.down.now c.obey.new.down in
+    let Other = ReportedOver g.W.Wire.sent g.W.Wire.given c.obey.new.up c.obey.new.down in
+    replay_reports Reports Other (λ s text r. r.0 fresh) (g.I.Source.left c.args.input.now) (Gains g.O.Sink.put c.args.out.now c.obey.new.out)
+    (Came g.I.Source.given g.I.Source.left c.args.input.now c.obey.new.input) _ c.args.words.now (code_of c.obey.result)
+    (c.obey.ensures.means c.args.words.now c.in-Ok.ensures) done.0 (sym c.code.ensures ∙ done.1)
+
+pub returns-in-Ok-clause-replayed : goal.returns-in-Ok-clause-replayed
+returns-in-Ok-clause-replayed g c = λ done honest.
+    let Reports = ReportsOver g.W.Wire.honest g.W.Wire.sent g.W.Wire.given c.args.up.now c.obey.new.up c.args.down.now c.obey.new.down in
+    let Other = ReplayedOver g.W.Wire.sent g.W.Wire.given c.obey.new.up c.obey.new.down in
+    replay_reports Reports Other (λ s text r. r.1 honest) (g.I.Source.left c.args.input.now) (Gains g.O.Sink.put c.args.out.now c.obey.new.out)
+    (Came g.I.Source.given g.I.Source.left c.args.input.now c.obey.new.input) _ c.args.words.now (code_of c.obey.result)
+    (c.obey.ensures.means c.args.words.now c.in-Ok.ensures) done.0 (sym c.code.ensures ∙ done.1)
