@@ -62,8 +62,8 @@ contains_either (z ∷ xs) y x (zero, within, is) = inl (0, omega arith, is)
 contains_either (z ∷ xs) y x (suc k, within, is) =
     let less : k < length (xs ++ y ∷ []) = (let m : suc k < suc (length (xs ++ y ∷ [])) = within in omega arith) in
     elim (contains_either xs y x (k, less, is)) [
-    | inl (j, below, at) ↦ inl (suc j, (let m : j < length xs = below in omega arith), at)
-    | inr same ↦ inr same
+      | inl (j, below, at) ↦ inl (suc j, (let m : j < length xs = below in omega arith), at)
+      | inr same ↦ inr same
     ]
 
 -- ---- choices
