@@ -1,5 +1,5 @@
 -- What the parts of a line hold is good.
-use Rattle.std.proofs.Common.{◌≡◌, refl, sym, ap, ◌∙◌, subst, ℕ, ◌+◌, ◌≤◌, List, [], length, drop, ◌⊎◌, inl, inr, Option, Some, None, IfSome, arith}
+use Rattle.std.proofs.Common.{◌≡◌, refl, sym, ◌∙◌, subst, ℕ, ◌+◌, ◌≤◌, List, [], length, inl, inr, Option, Some, None, IfSome, arith}
 use Rattle.bp_value.specs.declared.fault.ShapeFault.{ShapeFault}
 use Rattle.bp_value.specs.declared.shape.Shape.{Shape}
 use Rattle.bp_value.specs.declared.shape.Shape.TheVariants as shp
@@ -20,9 +20,9 @@ use Rattle.rpc_schema.specs.declared.desc.Entry.{Entry}
 use Rattle.rpc_schema.specs.declared.desc.Behaviour.{Behaviour}
 use Rattle.rpc_schema.specs.declared.heads.Head.{Head}
 use Rattle.rpc_schema.specs.declared.shapes.Shapes.{Shapes}
-use Rattle.rpc_schema.specs.Entries.{IsRpcName, IsVersion, IsUsedBy, IsDesc, Suits, IsEntry}
+use Rattle.rpc_schema.specs.Entries.{IsUsedBy, Suits, IsEntry}
 use Rattle.rpc_schema.specs.Reading.{IsHeadGood}
-use Rattle.rpc_schema.specs.SchemaLines.{ShapeRefused, IsLineHead, AreShapes, IsShapePart, desc_of, entry_of, IsTail, IsLineOf}
+use Rattle.rpc_schema.specs.SchemaLines.{ShapeRefused, IsLineHead, AreShapes, desc_of, entry_of, IsTail, IsLineOf}
 
 -- ---- shapes
 

@@ -1,16 +1,13 @@
 -- A line of a schema is that of one entry, and no such line is refused.
-use Rattle.std.proofs.Common.{◌≡◌, refl, sym, ap, ◌∙◌, subst, Bool, true, false, ℕ, ◌<◌, ◌^◌, ℤ, pos, List, [], ◌∷◌, ◌++◌, drop, cond, codes, ◌⊎◌, inl, inr, Option, Some, None, arith}
+use Rattle.std.proofs.Common.{◌≡◌, refl, sym, ap, ◌∙◌, subst, ℕ, ℤ, pos, List, [], drop, cond, codes, inl, inr, Option, Some, None, arith}
 use Rattle.std.specs.Str.{bytes_eq}
-use Rattle.std.specs.Fmt.{decimal}
 use Rattle.std.proofs.lemmas.Fmt.{decimal_injective}
 use Rattle.bp_value.specs.declared.shape.Shape.{Shape}
 use Rattle.bp_value.specs.declared.shape.Shape.TheVariants as shp
-use Rattle.bp_value.specs.declared.value.Value.{Value}
 use Rattle.bp_value.specs.Form.{form_of}
 use Rattle.bp_value.specs.Faults.{IsGood}
 use Rattle.bp_text_grammar.specs.Lexing.{in_name}
 use Rattle.bp_text_grammar.specs.Scanning.{span, after_blanks}
-use Rattle.bp_text_grammar.specs.WholeTexts.{IsValueText, IsShapeFront, IsNoShapeFront}
 use Rattle.bp_text_grammar.proofs.PrintedLaws.{value_text_once}
 use Rattle.bp_text.proofs.FrontOnce.{front_once, front_none_there}
 use Rattle.rpc_schema.specs.declared.desc.Kind.{Kind}
@@ -20,10 +17,9 @@ use Rattle.rpc_schema.specs.declared.desc.Side.{Side}
 use Rattle.rpc_schema.specs.declared.desc.Side.TheVariants.{Both, Caller, Callee}
 use Rattle.rpc_schema.specs.declared.desc.Behaviour.{Behaviour}
 use Rattle.rpc_schema.specs.declared.desc.Behaviour.TheVariants as act
-use Rattle.rpc_schema.specs.declared.desc.Entry.{Entry}
 use Rattle.rpc_schema.specs.declared.heads.Head.{Head}
 use Rattle.rpc_schema.specs.declared.shapes.Shapes.{Shapes}
-use Rattle.rpc_schema.specs.LineParts.{Next, NextRefused, Known, Lacks, front_word, WordFor, Mark, IsEnded, End}
+use Rattle.rpc_schema.specs.LineParts.{Next, NextRefused, Known, Lacks, front_word, Mark, End}
 use Rattle.rpc_schema.specs.SchemaLines.{kind_word, side_word, IsKind, IsSide, IsNamePart, SpellsVersion, IsVersionPart, Equals, IsSided, SidedRefused, IsVersioned, VersionedRefused, IsNamedHead, NamedRefused, IsLineHead, HeadRefused, IsShapePart, ShapeRefused, Marked, MarkedRefused, AreItems, ItemsRefused, IsPlainRest, IsStateRest, StateRestRefused, AreShapes, ShapesRefused, SpellsAct, IsAct, IsConst, IsConstant, IsBehaviour, BehaviourRefused, IsDo, IsTail, TailRefused, desc_of, entry_of, IsDescribed, DescribedRefused, IsLineOf, SchemaLineRefused}
 use Rattle.rpc_schema.proofs.PartLaws.{IsSure, sure_next, sure_last, sure_lacks, sure_word, sure_mark, sure_end}
 

@@ -1,13 +1,12 @@
 -- The value of a menu, item by item.
-use Rattle.std.proofs.Common.{◌≡◌, refl, sym, ap, ◌∙◌, subst, ℕ, ℤ, List, [], ◌∷◌}
+use Rattle.std.proofs.Common.{◌≡◌, ap, ◌∙◌, subst, ℕ, List, [], ◌∷◌}
 use Rattle.std.specs.List.{All}
 use Rattle.std.proofs.lemmas.List.Elements.{All-weaker}
-use Rattle.bp_value.specs.declared.shape.Shape.{Shape}
 use Rattle.bp_value.specs.declared.shape.Shape.TheVariants as shp
 use Rattle.bp_value.specs.declared.value.Value.{Value}
 use Rattle.bp_value.specs.declared.value.Value.TheVariants as val
-use Rattle.bp_value.specs.Form.{Form, form_of, text, int, listed, tuple, part, end}
-use Rattle.bp_value.specs.Fits.{Fits, FitParts}
+use Rattle.bp_value.specs.Form.{form_of, text, int, listed, tuple, part, end}
+use Rattle.bp_value.specs.Fits.{Fits}
 use Rattle.bp_value.proofs.Forms.{form_of-List, form_of-Tuple, form_of-Text, form_of-Int}
 use Rattle.rpc_schema.specs.Entries.{IsAnyOf}
 use Rattle.rpc_schema.specs.Choice.{menu_shape, IsListing}

@@ -1,11 +1,10 @@
 -- A part of a line has one value and one end, and where it stands no refusal does.
-use Rattle.std.proofs.Common.{◌≡◌, refl, sym, ap, ◌∙◌, subst, ℕ, List, [], ◌∷◌, ◌++◌, ◌⊎◌, inl, inr, Option, Some, None, Ok, Err}
+use Rattle.std.proofs.Common.{◌≡◌, refl, sym, ap, ◌∙◌, subst, ℕ, List, [], ◌∷◌, ◌++◌, inl, inr, Option, Some, None, Ok, Err}
 use Rattle.std.specs.Option.{MatchOption}
 use Rattle.std.proofs.Common.{Result}
-use Rattle.bp_text_grammar.specs.Scanning.{span, after_blanks}
 use Rattle.rpc_schema.specs.declared.stop.Stop.{Stop}
 use Rattle.rpc_schema.specs.declared.stop.Stop.TheVariants as stop
-use Rattle.rpc_schema.specs.LineParts.{Next, NextRefused, Known, Lacks, front_word, WordFor, Mark, End, RunOf}
+use Rattle.rpc_schema.specs.LineParts.{Next, NextRefused, Known, Lacks, front_word, WordFor, Mark, End}
 use Rattle.rpc_schema.specs.LineAnswers.{TakesOne, TakesWord}
 
 pub record IsSure {A : Type 0} (P : A → List ℕ → List ℕ → Type 0) (N : List ℕ → List ℕ → Type 0) : Type 0 where

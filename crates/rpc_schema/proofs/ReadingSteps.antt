@@ -1,23 +1,22 @@
 -- What the reading of a schema keeps from line to line, and what its refusals mean.
-use Rattle.std.proofs.Common.{◌≡◌, refl, sym, ap, ◌∙◌, subst, Bool, true, false, not, cond, ◌||◌, ℕ, ◌+◌, ◌<◌, ◌≤◌, List, [], ◌∷◌, ◌++◌, length, take, drop, get_or, map, Ok, Err, ◌⊎◌, inl, inr, Bor, arith, append_assoc}
+use Rattle.std.proofs.Common.{◌≡◌, refl, sym, ap, ◌∙◌, subst, Bool, true, false, not, cond, ◌||◌, ℕ, ◌+◌, ◌<◌, ◌≤◌, List, [], ◌∷◌, ◌++◌, length, take, drop, get_or, map, inl, inr, Bor, arith}
 use Rattle.std.specs.List.{All, AllZip, Contains, filter, list_any}
 use Rattle.std.specs.BTreeSet.{BTreeSet, contains}
 use Rattle.std.specs.Ordering.{eq_by_cmp, is_eq}
 use Rattle.std.proofs.lemmas.Cmp.{eq_by_cmp_equiv, then_total, on_total, nat_list_cmp_total, int_cmp_total}
 use Rattle.std.proofs.lemmas.List.Folds.{list_any-append}
 use Rattle.std.proofs.lemmas.List.{map-append, take_more, get_or-map, length-map, length-take-le, take_all}
-use Rattle.std.proofs.lemmas.List.Elements.{All-push, All-nil, filter-append}
+use Rattle.std.proofs.lemmas.List.Elements.{All-push, filter-append}
 use Rattle.bp_value.specs.Names.{IsDistinct}
 use Rattle.bp_value.proofs.Distinct.{none_distinct}
 use Rattle.rpc_schema.specs.declared.desc.Entry.{Entry}
 use Rattle.rpc_schema.specs.declared.desc.Listing.{Listing}
 use Rattle.rpc_schema.specs.declared.error.SchemaError.{SchemaError}
 use Rattle.rpc_schema.specs.declared.error.SchemaError.TheVariants as error
-use Rattle.rpc_schema.specs.Entries.{IsEntry, AreEntries, listing_of, listing_cmp}
+use Rattle.rpc_schema.specs.Entries.{IsEntry, listing_of, listing_cmp}
 use Rattle.rpc_schema.specs.TextLines.{Numbered, numbered_from, is_skipped, text_lines, lines_read}
-use Rattle.rpc_schema.specs.SchemaLines.{IsLineOf, IsLineRefusedAt}
 use Rattle.rpc_schema.specs.SchemaTexts.{IsEntryLine, AreEntryLines, ReachesLine, IsBadSchemaLine, IsTwice, RefusesSchema}
-use Rattle.rpc_schema.specs.Reading.{slices, Marks, AddsEntry, FollowsLine, RefusesEntry, RefusesNext}
+use Rattle.rpc_schema.specs.Reading.{slices, Marks, FollowsLine, RefusesNext}
 use Rattle.rpc_schema.proofs.Distinct.{distinct_push, any_contains, contains_any}
 use Rattle.rpc_schema.proofs.TextParts.{slices_split}
 

@@ -1,10 +1,9 @@
 -- A text is that of one list of entries, and has no line at fault.
-use Rattle.std.proofs.Common.{◌≡◌, refl, sym, ap, ◌∙◌, subst, ℕ, List, [], ◌∷◌, ◌++◌, length, map, Err}
+use Rattle.std.proofs.Common.{◌≡◌, refl, ap, ◌∙◌, subst, ℕ, List, [], ◌∷◌, ◌++◌, map, Err}
 use Rattle.std.proofs.lemmas.List.{map-append}
 use Rattle.std.specs.List.{AllZip, Contains}
 use Rattle.bp_value.specs.Names.{IsDistinct}
 use Rattle.rpc_schema.specs.declared.desc.Entry.{Entry}
-use Rattle.rpc_schema.specs.declared.desc.Listing.{Listing}
 use Rattle.rpc_schema.specs.declared.error.SchemaError.{SchemaError}
 use Rattle.rpc_schema.specs.declared.error.SchemaError.TheVariants as error
 use Rattle.rpc_schema.specs.Entries.{listing_of}

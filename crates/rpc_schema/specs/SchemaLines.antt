@@ -1,5 +1,5 @@
 -- The grammar of a line of a schema, and where a line that is none is refused.
-use Rattle.std.specs.Prelude.{◌≡◌, ℕ, ◌<◌, ◌-◌, ◌^◌, ℤ, pos, List, [], ◌∷◌, length, drop, codes, Option, Some, None, ◌⊎◌}
+use Rattle.std.specs.Prelude.{◌≡◌, ℕ, ◌<◌, ◌-◌, ◌^◌, ℤ, pos, List, [], length, drop, codes, Option, Some, None, ◌⊎◌}
 use Rattle.std.specs.Fmt.{decimal}
 use Rattle.bp_value.specs.declared.shape.Shape.{Shape}
 use Rattle.bp_value.specs.declared.shape.Shape.TheVariants as shp
@@ -20,7 +20,7 @@ use Rattle.rpc_schema.specs.declared.desc.Entry.{Entry}
 use Rattle.rpc_schema.specs.declared.heads.Head.{Head}
 use Rattle.rpc_schema.specs.declared.shapes.Shapes.{Shapes}
 use Rattle.rpc_schema.specs.Entries.{is_visible, IsRpcName, Suits}
-use Rattle.rpc_schema.specs.LineParts.{Next, NextRefused, Known, Lacks, front_word, behind_word, WordFor, Mark, IsEnded, End, RunOf}
+use Rattle.rpc_schema.specs.LineParts.{Next, NextRefused, Known, Lacks, WordFor, Mark, IsEnded, End, RunOf}
 
 -- ---- what stands before the shapes
 

@@ -1,5 +1,5 @@
 -- The word `const`, and what follows it.
-use Rattle.std.proofs.Common.{codes, ◌≡◌, List, ℕ, Result, Ok, Err}
+use Rattle.std.proofs.Common.{List, ℕ, Result, Ok, Err}
 use Rattle.rpc_schema.specs.declared.desc.RpcDesc.{RpcDesc}
 use Rattle.rpc_schema.specs.declared.desc.Behaviour.{Behaviour}
 use Rattle.rpc_schema.specs.declared.stop.Stop.{Stop}

@@ -1,5 +1,5 @@
 -- The set says whether an earlier entry has the name and version.
-use Rattle.std.proofs.Common.{◌≡◌, refl, sym, ap, subst, cond, not, true, false, rules}
+use Rattle.std.proofs.Common.{◌≡◌, refl, sym, subst, cond, not, true, rules}
 use Rattle.std.specs.BTreeSet.{contains}
 use Rattle.std.specs.Ordering.{is_eq}
 use Rattle.rpc_schema.specs.declared.desc.Listing.{Listing}

@@ -1,5 +1,5 @@
 -- The line is that of an entry, or refused at its place.
-use Rattle.std.proofs.Common.{refl, sym, ap, subst, ◌∙◌, ◌-◌, [], length, Err}
+use Rattle.std.proofs.Common.{refl, ap, subst, ◌∙◌, ◌-◌, [], length, Err}
 use Rattle.rpc_schema.specs.LineAnswers.{TakesOne}
 use Rattle.rpc_schema.specs.SchemaLines.{IsLineOf, SchemaLineRefused}
 use Rattle.rpc_schema.proofs.GoodLines.{line_ends}
