@@ -1,5 +1,5 @@
 -- The choice of a version, with one entry of the menu more; and places in lists.
-use Rattle.std.proofs.Common.{◌≡◌, refl, sym, ap, ◌∙◌, subst, ℕ, zero, suc, ◌+◌, ◌<◌, ◌≤◌, ℤ, ◌≤ℤ◌, List, [], ◌∷◌, ◌++◌, length, get_or, take, slice_get, map, Option, Some, None, IfSome, ◌⊎◌, inl, inr, arith}
+use Rattle.std.proofs.Common.{◌≡◌, refl, sym, ap, ◌∙◌, subst, ℕ, zero, suc, ◌+◌, ◌<◌, ◌≤◌, ℤ, ◌≤ℤ◌, List, [], ◌∷◌, ◌++◌, length, get_or, take, slice_get, map, Option, Some, None, ◌⊎◌, inl, inr, arith}
 use Rattle.std.specs.List.{Contains, filter}
 use Rattle.std.proofs.lemmas.List.{map-append, take_more}
 use Rattle.std.proofs.lemmas.List.Elements.{filter-append}
@@ -62,8 +62,8 @@ contains_either (z ∷ xs) y x (zero, within, is) = inl (0, omega arith, is)
 contains_either (z ∷ xs) y x (suc k, within, is) =
     let less : k < length (xs ++ y ∷ []) = (let m : suc k < suc (length (xs ++ y ∷ [])) = within in omega arith) in
     elim (contains_either xs y x (k, less, is)) [
-    | inl (j, below, at) ↦ inl (suc j, (let m : j < length xs = below in omega arith), at)
-    | inr same ↦ inr same
+      | inl (j, below, at) ↦ inl (suc j, (let m : j < length xs = below in omega arith), at)
+      | inr same ↦ inr same
     ]
 
 -- ---- choices

@@ -1,5 +1,5 @@
 -- What the parts of a line hold is good.
-use Rattle.std.proofs.Common.{◌≡◌, refl, sym, ap, ◌∙◌, subst, ℕ, ◌+◌, ◌≤◌, List, [], length, drop, ◌⊎◌, inl, inr, Option, Some, None, IfSome, arith}
+use Rattle.std.proofs.Common.{◌≡◌, refl, sym, ◌∙◌, subst, ℕ, ◌+◌, ◌≤◌, List, [], length, inl, inr, Option, Some, None, IfSome, arith}
 use Rattle.bp_value.specs.declared.fault.ShapeFault.{ShapeFault}
 use Rattle.bp_value.specs.declared.shape.Shape.{Shape}
 use Rattle.bp_value.specs.declared.shape.Shape.TheVariants as shp
@@ -20,9 +20,9 @@ use Rattle.rpc_schema.specs.declared.desc.Entry.{Entry}
 use Rattle.rpc_schema.specs.declared.desc.Behaviour.{Behaviour}
 use Rattle.rpc_schema.specs.declared.heads.Head.{Head}
 use Rattle.rpc_schema.specs.declared.shapes.Shapes.{Shapes}
-use Rattle.rpc_schema.specs.Entries.{IsRpcName, IsVersion, IsUsedBy, IsDesc, Suits, IsEntry}
+use Rattle.rpc_schema.specs.Entries.{IsUsedBy, Suits, IsEntry}
 use Rattle.rpc_schema.specs.Reading.{IsHeadGood}
-use Rattle.rpc_schema.specs.SchemaLines.{ShapeRefused, IsHead, AreShapes, IsShapePart, desc_of, entry_of, IsTail, IsSchemaLine}
+use Rattle.rpc_schema.specs.SchemaLines.{ShapeRefused, IsLineHead, AreShapes, desc_of, entry_of, IsTail, IsLineOf}
 
 -- ---- shapes
 
@@ -66,7 +66,7 @@ not_good_refused s new fault (shape, end, stands, first) is =
 
 -- ---- parts of a line
 
-pub head_good : (h : Head) (s u : List ℕ) → IsHead h s u → IsHeadGood h
+pub head_good : (h : Head) (s u : List ℕ) → IsLineHead h s u → IsHeadGood h
 head_good h s u (k, t, p, (n, t1, (run, named), (v, t2, ((m, is, small, spelled), q), (d, t3, sided, known)))) =
     subst IsHeadGood (sym known.0) (record { name = named; version = (m, is, small) })
 
@@ -87,8 +87,22 @@ shapes_good OneWay shapes s u (query, t, (i, f, good, c), known) =
 shapes_good Pipe shapes s u (query, t, (i, f, good, c), (item, t1, (m, y, mark, (k, front, fine, e)), (error, t2, (n, z, sign, (j, fore, well, g)), known))) =
     subst (AreShapesGood Pipe) (sym known.0)
     (record { query = good; first = good_unit; item = fine; error = well; used = refl })
-shapes_good State shapes s u (query, t, (i, f, good, c), (first, t1, (m, y, mark, (k, front, fine, e)), (item, t2, (n, z, sign, (j, fore, well, g)),
-    (error, t3, (o, w, last, (l, before, right, h)), known)))) =
+shapes_good State shapes s u (
+  query,
+  t,
+  (i, f, good, c),
+  (
+    first,
+    t1,
+    (m, y, mark, (k, front, fine, e)),
+    (
+      item,
+      t2,
+      (n, z, sign, (j, fore, well, g)),
+      (error, t3, (o, w, last, (l, before, right, h)), known),
+    ),
+  ),
+) =
     subst (AreShapesGood State) (sym known.0)
     (record { query = good; first = fine; item = well; error = right; used = tt })
 
@@ -113,5 +127,5 @@ tail_ends d None s u (none, end) = end
 tail_ends d (Some b) s u (a, t, is, (inl (c, t1, act, (e, t2, (none, end), known)))) = known.1 ∙ end
 tail_ends d (Some b) s u (a, t, is, (inr (c, t1, const, (v, made, text, end)))) = end
 
-pub line_ends : (n : ℕ) (e : Entry) (s u : List ℕ) → IsSchemaLine n e s u → u ≡ []
+pub line_ends : (n : ℕ) (e : Entry) (s u : List ℕ) → IsLineOf n e s u → u ≡ []
 line_ends n e s u (head, t, is, (shapes, t1, are, (b, t2, tail, known))) = known.1 ∙ tail_ends (desc_of head shapes) b t1 t2 tail

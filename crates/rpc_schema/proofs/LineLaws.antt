@@ -1,16 +1,13 @@
 -- A line of a schema is that of one entry, and no such line is refused.
-use Rattle.std.proofs.Common.{◌≡◌, refl, sym, ap, ◌∙◌, subst, Bool, true, false, ℕ, ◌<◌, ◌^◌, ℤ, pos, List, [], ◌∷◌, ◌++◌, drop, cond, codes, ◌⊎◌, inl, inr, Option, Some, None, arith}
+use Rattle.std.proofs.Common.{◌≡◌, refl, sym, ap, ◌∙◌, subst, ℕ, ℤ, pos, List, [], drop, cond, codes, inl, inr, Option, Some, None, arith}
 use Rattle.std.specs.Str.{bytes_eq}
-use Rattle.std.specs.Fmt.{decimal}
 use Rattle.std.proofs.lemmas.Fmt.{decimal_injective}
 use Rattle.bp_value.specs.declared.shape.Shape.{Shape}
 use Rattle.bp_value.specs.declared.shape.Shape.TheVariants as shp
-use Rattle.bp_value.specs.declared.value.Value.{Value}
 use Rattle.bp_value.specs.Form.{form_of}
 use Rattle.bp_value.specs.Faults.{IsGood}
 use Rattle.bp_text_grammar.specs.Lexing.{in_name}
 use Rattle.bp_text_grammar.specs.Scanning.{span, after_blanks}
-use Rattle.bp_text_grammar.specs.WholeTexts.{IsValueText, IsShapeFront, IsNoShapeFront}
 use Rattle.bp_text_grammar.proofs.PrintedLaws.{value_text_once}
 use Rattle.bp_text.proofs.FrontOnce.{front_once, front_none_there}
 use Rattle.rpc_schema.specs.declared.desc.Kind.{Kind}
@@ -20,11 +17,10 @@ use Rattle.rpc_schema.specs.declared.desc.Side.{Side}
 use Rattle.rpc_schema.specs.declared.desc.Side.TheVariants.{Both, Caller, Callee}
 use Rattle.rpc_schema.specs.declared.desc.Behaviour.{Behaviour}
 use Rattle.rpc_schema.specs.declared.desc.Behaviour.TheVariants as act
-use Rattle.rpc_schema.specs.declared.desc.Entry.{Entry}
 use Rattle.rpc_schema.specs.declared.heads.Head.{Head}
 use Rattle.rpc_schema.specs.declared.shapes.Shapes.{Shapes}
-use Rattle.rpc_schema.specs.LineParts.{Next, NextRefused, Known, Lacks, word, WordFor, Mark, IsEnded, End}
-use Rattle.rpc_schema.specs.SchemaLines.{kind_word, side_word, IsKind, IsSide, IsName, SpellsVersion, IsVersionPart, Equals, IsSided, SidedRefused, IsVersioned, VersionedRefused, IsNamed, NamedRefused, IsHead, HeadRefused, IsShapePart, ShapeRefused, Marked, MarkedRefused, AreItems, ItemsRefused, IsPlainRest, IsStateRest, StateRestRefused, AreShapes, ShapesRefused, SpellsAct, IsAct, IsConst, IsConstant, IsBehaviour, BehaviourRefused, IsDo, IsTail, TailRefused, desc_of, entry_of, IsDescribed, DescribedRefused, IsSchemaLine, SchemaLineRefused}
+use Rattle.rpc_schema.specs.LineParts.{Next, NextRefused, Known, Lacks, front_word, Mark, End}
+use Rattle.rpc_schema.specs.SchemaLines.{kind_word, side_word, IsKind, IsSide, IsNamePart, SpellsVersion, IsVersionPart, Equals, IsSided, SidedRefused, IsVersioned, VersionedRefused, IsNamedHead, NamedRefused, IsLineHead, HeadRefused, IsShapePart, ShapeRefused, Marked, MarkedRefused, AreItems, ItemsRefused, IsPlainRest, IsStateRest, StateRestRefused, AreShapes, ShapesRefused, SpellsAct, IsAct, IsConst, IsConstant, IsBehaviour, BehaviourRefused, IsDo, IsTail, TailRefused, desc_of, entry_of, IsDescribed, DescribedRefused, IsLineOf, SchemaLineRefused}
 use Rattle.rpc_schema.proofs.PartLaws.{IsSure, sure_next, sure_last, sure_lacks, sure_word, sure_mark, sure_end}
 
 -- ---- words
@@ -90,8 +86,8 @@ sure_side = sure_word (λ d w. w ≡ side_word d) (one_spelled side_word side_ba
 sure_version : IsSure IsVersionPart (Lacks IsVersionPart)
 sure_version = sure_word SpellsVersion one_version
 
-sure_name : IsSure IsName (Lacks IsName)
-sure_name = sure_lacks IsName (λ a b s u v x y.
+sure_name : IsSure IsNamePart (Lacks IsNamePart)
+sure_name = sure_lacks IsNamePart (λ a b s u v x y.
     (ap (λ (p : List ℕ × List ℕ). p.0) (sym x.0.1 ∙ y.0.1), ap (λ (p : List ℕ × List ℕ). p.1) (sym x.0.1 ∙ y.0.1)))
 
 sure_sided : IsSure IsSided SidedRefused
@@ -105,12 +101,12 @@ sure_versioned kind name =
     (λ version. Next IsSided (λ side. Known (record { kind = kind; name = name; version = version; side = side }))) (λ version. SidedRefused) sure_version
     (λ version s u p. sure_last IsSided SidedRefused (λ side. record { kind = kind; name = name; version = version; side = side }) sure_sided)
 
-sure_named : (kind : Kind) → IsSure (IsNamed kind) NamedRefused
+sure_named : (kind : Kind) → IsSure (IsNamedHead kind) NamedRefused
 sure_named kind =
-    sure_next IsName (Lacks IsName) (λ name. IsVersioned kind name) (λ name. VersionedRefused) sure_name (λ name s u p. sure_versioned kind name)
+    sure_next IsNamePart (Lacks IsNamePart) (λ name. IsVersioned kind name) (λ name. VersionedRefused) sure_name (λ name s u p. sure_versioned kind name)
 
-sure_head : IsSure IsHead HeadRefused
-sure_head = sure_next IsKind (Lacks IsKind) IsNamed (λ kind. NamedRefused) sure_kind (λ kind s u p. sure_named kind)
+sure_head : IsSure IsLineHead HeadRefused
+sure_head = sure_next IsKind (Lacks IsKind) IsNamedHead (λ kind. NamedRefused) sure_kind (λ kind s u p. sure_named kind)
 
 -- ---- shapes
 
@@ -165,7 +161,7 @@ sure_do : IsSure IsDo (Lacks IsDo)
 sure_do = sure_word (λ d w. w ≡ codes "do") (λ a b w x y. refl)
 
 sure_act : (d : RpcDesc) → IsSure (IsAct d) (Lacks (IsAct d))
-sure_act d = sure_lacks (IsAct d) (λ a b s u v x y. (one_act a b (word s) x.0.0 y.0.0, x.1 ∙ sym y.1))
+sure_act d = sure_lacks (IsAct d) (λ a b s u v x y. (one_act a b (front_word s) x.0.0 y.0.0, x.1 ∙ sym y.1))
 
 sure_const : (d : RpcDesc) → IsSure (IsConst d) (Lacks (IsConst d))
 sure_const d = sure_lacks (IsConst d) (λ a b s u v x y. (refl, x.1 ∙ sym y.1))
@@ -193,17 +189,17 @@ sure_behaviour d good = record { once = once; apart = apart } where
   once : (a b : Behaviour) (s u v : List ℕ) → IsBehaviour d a s u → IsBehaviour d b s v → (a ≡ b) × (u ≡ v)
   once a b s u v (inl x) (inl y) = (sure_acts d).once a b s u v x y
   once a b s u v (inr x) (inr y) = (consts x.2.0.1).once a b s u v x y
-  once a b s u v (inl x) (inr y) = absurd (const_no_act x.0 (word s) x.2.0.0 y.2.0.0)
-  once a b s u v (inr x) (inl y) = absurd (const_no_act y.0 (word s) y.2.0.0 x.2.0.0)
+  once a b s u v (inl x) (inr y) = absurd (const_no_act x.0 (front_word s) x.2.0.0 y.2.0.0)
+  once a b s u v (inr x) (inl y) = absurd (const_no_act y.0 (front_word s) y.2.0.0 x.2.0.0)
 
   apart : (a : Behaviour) (s u x : List ℕ) → IsBehaviour d a s u → BehaviourRefused d s x → ⊥
   apart a s u x (inl is) (inl (none, fails)) = (sure_acts d).apart a s u x is fails
   apart a s u x (inr is) (inl (none, fails)) = none is.0 is.1 is.2
-  apart a s u x (inl is) (inr (c, t, at, fails)) = const_no_act is.0 (word s) is.2.0.0 at.0.0
+  apart a s u x (inl is) (inr (c, t, at, fails)) = const_no_act is.0 (front_word s) is.2.0.0 at.0.0
   apart a s u x (inr is) (inr (c, t, at, fails)) = (consts at.0.1).apart a s u x is (inr (c, t, at, fails))
 
 -- where nothing is left no word stands
-no_word : (s : List ℕ) → after_blanks s ≡ [] → word s ≡ []
+no_word : (s : List ℕ) → after_blanks s ≡ [] → front_word s ≡ []
 no_word s e = ap (λ r. (span in_name r).0) e
 
 sure_tail : (d : RpcDesc) → (d.kind ≡ Plain → IsGood (form_of d.first)) → IsSure (IsTail d) (TailRefused d)
@@ -211,7 +207,7 @@ sure_tail d good = record { once = once; apart = apart } where
   after : IsSure (Next IsDo (λ a. IsBehaviour d)) (NextRefused IsDo (Lacks IsDo) (λ a. BehaviourRefused d))
   after = sure_next IsDo (Lacks IsDo) (λ a. IsBehaviour d) (λ a. BehaviourRefused d) sure_do (λ a s u p. sure_behaviour d good)
 
-  not_both : (s : List ℕ) → after_blanks s ≡ [] → word s ≡ codes "do" → ⊥
+  not_both : (s : List ℕ) → after_blanks s ≡ [] → front_word s ≡ codes "do" → ⊥
   not_both s none is = let e : [] ≡ codes "do" = sym (no_word s none) ∙ is in absurd cc
 
   once : (a b : Option Behaviour) (s u v : List ℕ) → IsTail d a s u → IsTail d b s v → (a ≡ b) × (u ≡ v)
@@ -226,8 +222,8 @@ sure_tail d good = record { once = once; apart = apart } where
 
 -- ---- lines
 
-pub sure_line : (n : ℕ) → IsSure (IsSchemaLine n) SchemaLineRefused
-sure_line n = sure_next IsHead HeadRefused (IsDescribed n) DescribedRefused sure_head (λ head s u p. described head)
+pub sure_line : (n : ℕ) → IsSure (IsLineOf n) SchemaLineRefused
+sure_line n = sure_next IsLineHead HeadRefused (IsDescribed n) DescribedRefused sure_head (λ head s u p. described head)
   where
     described : (head : Head) → IsSure (IsDescribed n head) (DescribedRefused head)
     described head =

@@ -1,17 +1,15 @@
 -- The value of a menu, item by item.
-use Rattle.std.proofs.Common.{◌≡◌, refl, sym, ap, ◌∙◌, subst, ℕ, ℤ, List, [], ◌∷◌}
+use Rattle.std.proofs.Common.{◌≡◌, ap, ◌∙◌, subst, ℕ, List, [], ◌∷◌}
 use Rattle.std.specs.List.{All}
 use Rattle.std.proofs.lemmas.List.Elements.{All-weaker}
-use Rattle.bp_value.specs.declared.shape.Shape.{Shape}
 use Rattle.bp_value.specs.declared.shape.Shape.TheVariants as shp
 use Rattle.bp_value.specs.declared.value.Value.{Value}
 use Rattle.bp_value.specs.declared.value.Value.TheVariants as val
-use Rattle.bp_value.specs.Form.{Form, form_of, text, int, listed, tuple, part, end}
-use Rattle.bp_value.specs.Fits.{Fits, FitParts}
+use Rattle.bp_value.specs.Form.{form_of, text, int, listed, tuple, part, end}
+use Rattle.bp_value.specs.Fits.{Fits}
 use Rattle.bp_value.proofs.Forms.{form_of-List, form_of-Tuple, form_of-Text, form_of-Int}
-use Rattle.rpc_schema.specs.Entries.{IsOf}
+use Rattle.rpc_schema.specs.Entries.{IsAnyOf}
 use Rattle.rpc_schema.specs.Choice.{menu_shape, IsListing}
-
 
 menu_form : form_of menu_shape ≡ listed (tuple (part [] text (part [] int end)))
 menu_form =
@@ -33,7 +31,7 @@ items_fit : (m : ℕ) (v : Value) → Fits m (listed (tuple (part [] text (part 
 unfolding Fits
 items_fit m v (vs, is, (short, all)) = (vs, is, all)
 
-pub menu_items : (v : Value) → IsOf (form_of menu_shape) v → (vs : List Value) × (v ≡ val.Items vs) × All IsListing vs
+pub menu_items : (v : Value) → IsAnyOf (form_of menu_shape) v → (vs : List Value) × (v ≡ val.Items vs) × All IsListing vs
 menu_items v (m, fits) =
     let (vs, is, all) = items_fit m v (subst (λ f. Fits m f v) menu_form fits) in
     (vs, is, All-weaker (Fits m (tuple (part [] text (part [] int end)))) IsListing (a_listing m) vs all)

@@ -1,12 +1,11 @@
 -- A part of a line has one value and one end, and where it stands no refusal does.
-use Rattle.std.proofs.Common.{◌≡◌, refl, sym, ap, ◌∙◌, subst, ℕ, List, [], ◌∷◌, ◌++◌, ◌⊎◌, inl, inr, Option, Some, None, Ok, Err}
+use Rattle.std.proofs.Common.{◌≡◌, refl, sym, ap, ◌∙◌, subst, ℕ, List, [], ◌∷◌, ◌++◌, inl, inr, Option, Some, None, Ok, Err}
 use Rattle.std.specs.Option.{MatchOption}
 use Rattle.std.proofs.Common.{Result}
-use Rattle.bp_text_grammar.specs.Scanning.{span, after_blanks}
 use Rattle.rpc_schema.specs.declared.stop.Stop.{Stop}
 use Rattle.rpc_schema.specs.declared.stop.Stop.TheVariants as stop
-use Rattle.rpc_schema.specs.LineParts.{Next, NextRefused, Known, Never, Lacks, word, WordFor, Mark, End, RunOf}
-use Rattle.rpc_schema.specs.LineAnswers.{Takes, TakesWord}
+use Rattle.rpc_schema.specs.LineParts.{Next, NextRefused, Known, Lacks, front_word, WordFor, Mark, End}
+use Rattle.rpc_schema.specs.LineAnswers.{TakesOne, TakesWord}
 
 pub record IsSure {A : Type 0} (P : A → List ℕ → List ℕ → Type 0) (N : List ℕ → List ℕ → Type 0) : Type 0 where
   pub once : (a b : A) (s u v : List ℕ) → P a s u → P b s v → (a ≡ b) × (u ≡ v)
@@ -47,7 +46,7 @@ sure_lacks P once = record { once = once; apart = λ a s u x stands fails. fails
 
 pub sure_word : {A : Type 0} (Spells : A → List ℕ → Type 0) → ((a b : A) (w : List ℕ) → Spells a w → Spells b w → a ≡ b)
     → IsSure (WordFor Spells) (Lacks (WordFor Spells))
-sure_word Spells one = sure_lacks (WordFor Spells) (λ a b s u v x y. (one a b (word s) x.0 y.0, x.1 ∙ sym y.1))
+sure_word Spells one = sure_lacks (WordFor Spells) (λ a b s u v x y. (one a b (front_word s) x.0 y.0, x.1 ∙ sym y.1))
 
 cancel : (p u v : List ℕ) → p ++ u ≡ p ++ v → u ≡ v
 cancel [] u v e = e
@@ -65,25 +64,25 @@ sure_end = sure_lacks End (λ a b s u v x y. (one_unit a b, x.1 ∙ sym y.1))
 -- ---- words that are taken
 
 pub word_takes : {A : Type 0} (Spells : A → List ℕ → Type 0) (value : Option A) (old new : List ℕ) (result : Result A Stop)
-    → MatchOption value ((a : A) → Spells a (word old) → ⊥) (λ a. Spells a (word old)) → TakesWord value old new result
-    → Takes (WordFor Spells) (Lacks (WordFor Spells)) old new result
-word_takes Spells (Some a) old new result is takes = subst (λ r. Takes (WordFor Spells) (Lacks (WordFor Spells)) old new r) (sym takes.0) (is, takes.1)
+    → MatchOption value ((a : A) → Spells a (front_word old) → ⊥) (λ a. Spells a (front_word old)) → TakesWord value old new result
+    → TakesOne (WordFor Spells) (Lacks (WordFor Spells)) old new result
+word_takes Spells (Some a) old new result is takes = subst (λ r. TakesOne (WordFor Spells) (Lacks (WordFor Spells)) old new r) (sym takes.0) (is, takes.1)
 word_takes Spells None old new result none takes =
-    subst (λ r. Takes (WordFor Spells) (Lacks (WordFor Spells)) old new r) (sym takes.0) ((λ a u stands. none a stands.0), takes.1)
+    subst (λ r. TakesOne (WordFor Spells) (Lacks (WordFor Spells)) old new r) (sym takes.0) ((λ a u stands. none a stands.0), takes.1)
 
 -- ---- the second of two parts
 
 pub second_takes : {A B : Type 0} (P : A → List ℕ → List ℕ → Type 0) (N : List ℕ → List ℕ → Type 0) (Q : A → B → List ℕ → List ℕ → Type 0)
-    (M : A → List ℕ → List ℕ → Type 0) (a : A) (old mid new : List ℕ) (result : Result B Stop) → P a old mid → Takes (Q a) (M a) mid new result
-    → Takes (Next P Q) (NextRefused P N M) old new result
+    (M : A → List ℕ → List ℕ → Type 0) (a : A) (old mid new : List ℕ) (result : Result B Stop) → P a old mid → TakesOne (Q a) (M a) mid new result
+    → TakesOne (Next P Q) (NextRefused P N M) old new result
 second_takes P N Q M a old mid new (Ok b) first takes = (a, mid, first, takes)
 second_takes P N Q M a old mid new (Err stop.Refused) first takes = inr (a, mid, first, takes)
 second_takes P N Q M a old mid new (Err stop.OutOfMemory) first takes = tt
 
 pub second_stops : {A B C : Type 0} (P : A → List ℕ → List ℕ → Type 0) (N : List ℕ → List ℕ → Type 0) (Q : A → B → List ℕ → List ℕ → Type 0)
     (M : A → List ℕ → List ℕ → Type 0) (R : C → List ℕ → List ℕ → Type 0) (a : A) (old mid new : List ℕ) (e : Stop) (result : Result B Stop)
-    → result ≡ Err e → P a old mid → Takes R (M a) mid new (Err e) → Takes (Next P Q) (NextRefused P N M) old new result
+    → result ≡ Err e → P a old mid → TakesOne R (M a) mid new (Err e) → TakesOne (Next P Q) (NextRefused P N M) old new result
 second_stops P N Q M R a old mid new stop.Refused result is first fails =
-    subst (λ r. Takes (Next P Q) (NextRefused P N M) old new r) (sym is) (inr (a, mid, first, fails))
+    subst (λ r. TakesOne (Next P Q) (NextRefused P N M) old new r) (sym is) (inr (a, mid, first, fails))
 second_stops P N Q M R a old mid new stop.OutOfMemory result is first fails =
-    subst (λ r. Takes (Next P Q) (NextRefused P N M) old new r) (sym is) tt
+    subst (λ r. TakesOne (Next P Q) (NextRefused P N M) old new r) (sym is) tt

@@ -1,23 +1,22 @@
 -- What the reading of a schema keeps from line to line, and what its refusals mean.
-use Rattle.std.proofs.Common.{◌≡◌, refl, sym, ap, ◌∙◌, subst, Bool, true, false, not, cond, ◌||◌, ℕ, ◌+◌, ◌<◌, ◌≤◌, List, [], ◌∷◌, ◌++◌, length, take, drop, get_or, map, Ok, Err, ◌⊎◌, inl, inr, Bor, arith, append_assoc}
+use Rattle.std.proofs.Common.{◌≡◌, refl, sym, ap, ◌∙◌, subst, Bool, true, false, not, cond, ◌||◌, ℕ, ◌+◌, ◌<◌, ◌≤◌, List, [], ◌∷◌, ◌++◌, length, take, drop, get_or, map, inl, inr, Bor, arith}
 use Rattle.std.specs.List.{All, AllZip, Contains, filter, list_any}
 use Rattle.std.specs.BTreeSet.{BTreeSet, contains}
 use Rattle.std.specs.Ordering.{eq_by_cmp, is_eq}
 use Rattle.std.proofs.lemmas.Cmp.{eq_by_cmp_equiv, then_total, on_total, nat_list_cmp_total, int_cmp_total}
 use Rattle.std.proofs.lemmas.List.Folds.{list_any-append}
 use Rattle.std.proofs.lemmas.List.{map-append, take_more, get_or-map, length-map, length-take-le, take_all}
-use Rattle.std.proofs.lemmas.List.Elements.{All-push, All-nil, filter-append}
+use Rattle.std.proofs.lemmas.List.Elements.{All-push, filter-append}
 use Rattle.bp_value.specs.Names.{IsDistinct}
 use Rattle.bp_value.proofs.Distinct.{none_distinct}
 use Rattle.rpc_schema.specs.declared.desc.Entry.{Entry}
 use Rattle.rpc_schema.specs.declared.desc.Listing.{Listing}
 use Rattle.rpc_schema.specs.declared.error.SchemaError.{SchemaError}
 use Rattle.rpc_schema.specs.declared.error.SchemaError.TheVariants as error
-use Rattle.rpc_schema.specs.Entries.{IsEntry, AreEntries, listing_of, listing_cmp}
-use Rattle.rpc_schema.specs.TextLines.{Numbered, numbered, is_skipped, lines_of, lines_read}
-use Rattle.rpc_schema.specs.SchemaLines.{IsSchemaLine, IsRefusedAt}
-use Rattle.rpc_schema.specs.SchemaTexts.{IsEntryLine, AreEntryLines, Reaches, IsBadLine, IsTwice, RefusesSchema}
-use Rattle.rpc_schema.specs.Reading.{slices, Marks, Adds, Follows, RefusesEntry, RefusesNext}
+use Rattle.rpc_schema.specs.Entries.{IsEntry, listing_of, listing_cmp}
+use Rattle.rpc_schema.specs.TextLines.{Numbered, numbered_from, is_skipped, text_lines, lines_read}
+use Rattle.rpc_schema.specs.SchemaTexts.{IsEntryLine, AreEntryLines, ReachesLine, IsBadSchemaLine, IsTwice, RefusesSchema}
+use Rattle.rpc_schema.specs.Reading.{slices, Marks, FollowsLine, RefusesNext}
 use Rattle.rpc_schema.proofs.Distinct.{distinct_push, any_contains, contains_any}
 use Rattle.rpc_schema.proofs.TextParts.{slices_split}
 
@@ -27,17 +26,17 @@ abbrev says : Numbered → Bool
 says l = not (is_skipped l.bytes)
 
 abbrev pub kept : List (List ℕ) → List Numbered
-kept ls = filter says (numbered 1 ls)
+kept ls = filter says (numbered_from 1 ls)
 
-numbered_append : (n : ℕ) (xs ys : List (List ℕ)) → numbered n (xs ++ ys) ≡ numbered n xs ++ numbered (n + length xs) ys
-numbered_append n [] ys = let same : n ≡ n + 0 = omega arith in ap (λ m. numbered m ys) same
+numbered_append : (n : ℕ) (xs ys : List (List ℕ)) → numbered_from n (xs ++ ys) ≡ numbered_from n xs ++ numbered_from (n + length xs) ys
+numbered_append n [] ys = let same : n ≡ n + 0 = omega arith in ap (λ m. numbered_from m ys) same
 numbered_append n (x ∷ xs) ys =
     let same : (n + 1) + length xs ≡ n + length (x ∷ xs) = omega arith in
     ap (λ rest. record { number = n; bytes = x } ∷ rest)
-    (numbered_append (n + 1) xs ys ∙ ap (λ m. numbered (n + 1) xs ++ numbered m ys) same)
+    (numbered_append (n + 1) xs ys ∙ ap (λ m. numbered_from (n + 1) xs ++ numbered_from m ys) same)
 
-kept_append : (xs ys : List (List ℕ)) → kept (xs ++ ys) ≡ kept xs ++ filter says (numbered (1 + length xs) ys)
-kept_append xs ys = ap (filter says) (numbered_append 1 xs ys) ∙ filter-append says (numbered 1 xs) (numbered (1 + length xs) ys)
+kept_append : (xs ys : List (List ℕ)) → kept (xs ++ ys) ≡ kept xs ++ filter says (numbered_from (1 + length xs) ys)
+kept_append xs ys = ap (filter says) (numbered_append 1 xs ys) ∙ filter-append says (numbered_from 1 xs) (numbered_from (1 + length xs) ys)
 
 -- a line that says nothing, and one that says something
 first_out : (l : Numbered) (ls : List Numbered) → is_skipped l.bytes ≡ true → filter says (l ∷ ls) ≡ filter says ls
@@ -54,7 +53,7 @@ module _ (xs : List (List ℕ)) (l : List ℕ) (i : ℕ) (count : length xs ≡ 
 
   kept_skip : is_skipped l ≡ true → kept (xs ++ l ∷ []) ≡ kept xs
   kept_skip skipped =
-      kept_append xs (l ∷ []) ∙ (ap (λ n. kept xs ++ filter says (numbered n (l ∷ []))) at
+      kept_append xs (l ∷ []) ∙ (ap (λ n. kept xs ++ filter says (numbered_from n (l ∷ []))) at
       ∙ ap (λ rest. kept xs ++ rest) (first_out (record { number = i + 1; bytes = l }) [] skipped)) ∙ nothing (kept xs)
     where
       nothing : (ks : List Numbered) → ks ++ [] ≡ ks
@@ -62,12 +61,12 @@ module _ (xs : List (List ℕ)) (l : List ℕ) (i : ℕ) (count : length xs ≡ 
       nothing (k ∷ ks) = ap (λ rest. k ∷ rest) (nothing ks)
 
   kept_read : (ys : List (List ℕ)) → is_skipped l ≡ false
-      → kept (xs ++ l ∷ ys) ≡ kept xs ++ record { number = i + 1; bytes = l } ∷ filter says (numbered (i + 1 + 1) ys)
+      → kept (xs ++ l ∷ ys) ≡ kept xs ++ record { number = i + 1; bytes = l } ∷ filter says (numbered_from (i + 1 + 1) ys)
   kept_read ys read =
-      kept_append xs (l ∷ ys) ∙ (ap (λ n. kept xs ++ filter says (numbered n (l ∷ ys))) at
-      ∙ ap (λ rest. kept xs ++ rest) (first_in (record { number = i + 1; bytes = l }) (numbered (i + 1 + 1) ys) read))
+      kept_append xs (l ∷ ys) ∙ (ap (λ n. kept xs ++ filter says (numbered_from n (l ∷ ys))) at
+      ∙ ap (λ rest. kept xs ++ rest) (first_in (record { number = i + 1; bytes = l }) (numbered_from (i + 1 + 1) ys) read))
 
-  pub lines_go : (old new : List Entry) → Follows (i + 1) l old new → AreEntryLines old (kept xs) → AreEntryLines new (kept (xs ++ l ∷ []))
+  pub lines_go : (old new : List Entry) → FollowsLine (i + 1) l old new → AreEntryLines old (kept xs) → AreEntryLines new (kept (xs ++ l ∷ []))
   lines_go old new (inl (skipped, same)) good =
       subst (λ ks. AreEntryLines new ks) (sym (kept_skip skipped)) (subst (λ es. AreEntryLines es (kept xs)) (sym same) good)
   lines_go old new (inr (read, (e, is, entry, spelled, other))) good =
@@ -86,10 +85,10 @@ module _ (xs : List (List ℕ)) (l : List ℕ) (i : ℕ) (count : length xs ≡ 
 
   -- the line is the first one at fault
   reaches : (ys : List (List ℕ)) (es : List Entry) → is_skipped l ≡ false → AreEntryLines es (kept xs)
-      → Reaches (kept (xs ++ l ∷ ys)) (record { number = i + 1; bytes = l })
+      → ReachesLine (kept (xs ++ l ∷ ys)) (record { number = i + 1; bytes = l })
   reaches ys es read good = record {
     before = kept xs;
-    behind = filter says (numbered (i + 1 + 1) ys);
+    behind = filter says (numbered_from (i + 1 + 1) ys);
     cut = kept_read ys read;
     entries = es;
     good = good;
@@ -98,8 +97,8 @@ module _ (xs : List (List ℕ)) (l : List ℕ) (i : ℕ) (count : length xs ≡ 
   refused_line : (text : List ℕ) (ys : List (List ℕ)) (es : List Entry) (e : SchemaError) → lines_read text ≡ kept (xs ++ l ∷ ys) → AreEntryLines es (kept xs)
       → RefusesNext (i + 1) l es e → RefusesSchema text e
   refused_line text ys es (error.BadLine number place) is good (read, (same, refused)) =
-      subst (λ n. IsBadLine text n place) (sym same)
-      (record { bytes = l; reached = subst (λ ks. Reaches ks (record { number = i + 1; bytes = l })) (sym is) (reaches ys es read good); refused = refused })
+      subst (λ n. IsBadSchemaLine text n place) (sym same)
+      (record { bytes = l; reached = subst (λ ks. ReachesLine ks (record { number = i + 1; bytes = l })) (sym is) (reaches ys es read good); refused = refused })
   refused_line text ys es (error.Twice number) is good (read, (same, (e, spelled, earlier))) =
       subst (λ n. IsTwice text n) (sym same) (twice (lines_read text) is refl)
     where
@@ -108,7 +107,7 @@ module _ (xs : List (List ℕ)) (l : List ℕ) (i : ℕ) (count : length xs ≡ 
         bytes = l;
         reached = record {
           before = kept xs;
-          behind = filter says (numbered (i + 1 + 1) ys);
+          behind = filter says (numbered_from (i + 1 + 1) ys);
           cut = whole ∙ (cut ∙ kept_read ys read);
           entries = es;
           good = good;
@@ -134,19 +133,19 @@ slices_more parts i d within =
     ∙ ap (λ l. take i (slices parts) ++ l ∷ []) (get_or-map (λ (part : Bor (List ℕ)). part.now) parts i d d.now within)
 
 pub lines_more : (parts : List (Bor (List ℕ))) (i : ℕ) (d : Bor (List ℕ)) (old new : List Entry) → i < length parts
-    → Follows (i + 1) (get_or parts i d).now old new → AreEntryLines old (kept (take i (slices parts)))
+    → FollowsLine (i + 1) (get_or parts i d).now old new → AreEntryLines old (kept (take i (slices parts)))
     → AreEntryLines new (kept (take (i + 1) (slices parts)))
 lines_more parts i d old new within follows good =
     subst (λ ls. AreEntryLines new (kept ls)) (sym (slices_more parts i d within))
     (lines_go (take i (slices parts)) (get_or parts i d).now i (slices_length parts i within) old new follows good)
 
-pub each_more : (parts : List (Bor (List ℕ))) (i : ℕ) (d : Bor (List ℕ)) (old new : List Entry) → Follows (i + 1) (get_or parts i d).now old new
+pub each_more : (parts : List (Bor (List ℕ))) (i : ℕ) (d : Bor (List ℕ)) (old new : List Entry) → FollowsLine (i + 1) (get_or parts i d).now old new
     → All IsEntry old → All IsEntry new
 each_more parts i d old new (inl (skipped, same)) each = subst (All IsEntry) (sym same) each
 each_more parts i d old new (inr (read, (e, is, entry, spelled, other))) each = subst (All IsEntry) (sym is) (All-push IsEntry old e each entry)
 
 pub line_refused : (text : List ℕ) (parts : List (Bor (List ℕ))) (i : ℕ) (d : Bor (List ℕ)) (es : List Entry) (e : SchemaError) → i < length parts
-    → slices parts ≡ lines_of text → AreEntryLines es (kept (take i (slices parts))) → RefusesNext (i + 1) (get_or parts i d).now es e
+    → slices parts ≡ text_lines text → AreEntryLines es (kept (take i (slices parts))) → RefusesNext (i + 1) (get_or parts i d).now es e
     → RefusesSchema text e
 line_refused text parts i d es e within lines good refused =
     refused_line (take i (slices parts)) (get_or parts i d).now i (slices_length parts i within) text (drop (i + 1) (slices parts)) es e
@@ -157,7 +156,7 @@ line_refused text parts i d es e within lines good refused =
 pub none_read : AreEntryLines [] []
 none_read = record { lines = tt; apart = none_distinct }
 
-pub all_read : (text : List ℕ) (parts : List (Bor (List ℕ))) (i : ℕ) (es : List Entry) → length parts ≤ i → slices parts ≡ lines_of text
+pub all_read : (text : List ℕ) (parts : List (Bor (List ℕ))) (i : ℕ) (es : List Entry) → length parts ≤ i → slices parts ≡ text_lines text
     → AreEntryLines es (kept (take i (slices parts))) → AreEntryLines es (lines_read text)
 all_read text parts i es past lines good =
     let all : length (slices parts) ≡ length parts = length-map parts (λ (part : Bor (List ℕ)). part.now) in
@@ -177,9 +176,9 @@ pub marks_more : (old new : BTreeSet Listing) (es : List Entry) (e : Entry) → 
     → Marks new (es ++ e ∷ [])
 marks_more old new es e marks updates l =
     let end : list_any (eq_by_cmp listing_cmp l) (map listing_of (es ++ e ∷ []))
-        ≡ (list_any (eq_by_cmp listing_cmp l) (map listing_of es) || (is_eq (listing_cmp l (listing_of e)) || false)) =
-        ap (list_any (eq_by_cmp listing_cmp l)) (map-append listing_of es (e ∷ []))
-        ∙ list_any-append (eq_by_cmp listing_cmp l) (map listing_of es) (listing_of e ∷ []) in
+    ≡ (list_any (eq_by_cmp listing_cmp l) (map listing_of es) || (is_eq (listing_cmp l (listing_of e)) || false)) =
+    ap (list_any (eq_by_cmp listing_cmp l)) (map-append listing_of es (e ∷ []))
+    ∙ list_any-append (eq_by_cmp listing_cmp l) (map listing_of es) (listing_of e ∷ []) in
     updates l ∙ (ap (λ b. cond b true (contains listing_cmp old l)) (listing_alike (listing_of e) l)
     ∙ (ap (λ b. cond (is_eq (listing_cmp l (listing_of e))) true b) (marks l)
     ∙ (either (is_eq (listing_cmp l (listing_of e))) (list_any (eq_by_cmp listing_cmp l) (map listing_of es)) ∙ sym end)))

@@ -1,16 +1,15 @@
 -- A text is that of one list of entries, and has no line at fault.
-use Rattle.std.proofs.Common.{◌≡◌, refl, sym, ap, ◌∙◌, subst, ℕ, List, [], ◌∷◌, ◌++◌, length, map, Err}
+use Rattle.std.proofs.Common.{◌≡◌, refl, ap, ◌∙◌, subst, ℕ, List, [], ◌∷◌, ◌++◌, map, Err}
 use Rattle.std.proofs.lemmas.List.{map-append}
 use Rattle.std.specs.List.{AllZip, Contains}
 use Rattle.bp_value.specs.Names.{IsDistinct}
 use Rattle.rpc_schema.specs.declared.desc.Entry.{Entry}
-use Rattle.rpc_schema.specs.declared.desc.Listing.{Listing}
 use Rattle.rpc_schema.specs.declared.error.SchemaError.{SchemaError}
 use Rattle.rpc_schema.specs.declared.error.SchemaError.TheVariants as error
 use Rattle.rpc_schema.specs.Entries.{listing_of}
 use Rattle.rpc_schema.specs.TextLines.{Numbered, lines_read}
-use Rattle.rpc_schema.specs.SchemaLines.{IsRefusedAt}
-use Rattle.rpc_schema.specs.SchemaTexts.{IsEntryLine, AreEntryLines, Reaches, IsSchemaText, RefusesSchema, GivesSchema}
+use Rattle.rpc_schema.specs.SchemaLines.{IsLineRefusedAt}
+use Rattle.rpc_schema.specs.SchemaTexts.{IsEntryLine, AreEntryLines, ReachesLine, IsSchemaText, RefusesSchema, GivesSchema}
 use Rattle.rpc_schema.proofs.LineLaws.{sure_line}
 use Rattle.rpc_schema.proofs.Distinct.{distinct_behind}
 
@@ -54,19 +53,19 @@ between (e ∷ es) (k ∷ before) l behind h =
       here = b.here;
     }
 
-pub good_not_bad : (es : List Entry) (ls : List Numbered) (l : Numbered) (at : ℕ) → AreEntryLines es ls → Reaches ls l → IsRefusedAt l.bytes at → ⊥
+pub good_not_bad : (es : List Entry) (ls : List Numbered) (l : Numbered) (at : ℕ) → AreEntryLines es ls → ReachesLine ls l → IsLineRefusedAt l.bytes at → ⊥
 good_not_bad es ls l at good r (x, refused, place) =
     let b = between es r.before l r.behind (subst (λ ks. AllZip IsEntryLine es ks) r.cut good.lines) in
     (sure_line l.number).apart b.entry l.bytes [] x b.here refused
 
-pub good_not_twice : (es : List Entry) (ls : List Numbered) (l : Numbered) (e : Entry) → AreEntryLines es ls → (r : Reaches ls l) → IsEntryLine e l
+pub good_not_twice : (es : List Entry) (ls : List Numbered) (l : Numbered) (e : Entry) → AreEntryLines es ls → (r : ReachesLine ls l) → IsEntryLine e l
     → Contains (map listing_of r.entries) (listing_of e) → ⊥
 good_not_twice es ls l e good r line earlier =
     let b = between es r.before l r.behind (subst (λ ks. AllZip IsEntryLine es ks) r.cut good.lines) in
     let fore : r.entries ≡ b.fore = entries_once r.entries b.fore r.before r.good.lines b.earlier in
     let same : e ≡ b.entry = entry_once e b.entry l line b.here in
     let listings : map listing_of es ≡ map listing_of b.fore ++ listing_of b.entry ∷ map listing_of b.hind =
-        ap (map listing_of) b.parts ∙ map-append listing_of b.fore (b.entry ∷ b.hind) in
+    ap (map listing_of) b.parts ∙ map-append listing_of b.fore (b.entry ∷ b.hind) in
     distinct_behind (map listing_of b.fore) (listing_of b.entry) (map listing_of b.hind) (subst (λ ks. IsDistinct ks) listings good.apart)
     (subst (λ (f : Entry). Contains (map listing_of b.fore) (listing_of f)) same
     (subst (λ (fs : List Entry). Contains (map listing_of fs) (listing_of e)) fore earlier))

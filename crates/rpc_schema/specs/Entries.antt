@@ -1,5 +1,5 @@
 -- What every entry of a schema is, and in which order procedures stand.
-use Rattle.std.specs.Prelude.{◌≡◌, ◌≢◌, ℕ, ◌<◌, ◌≤◌, ◌^◌, ℤ, pos, Bool, List, [], ◌∷◌, length, map, codes, IfSome}
+use Rattle.std.specs.Prelude.{◌≡◌, ◌≢◌, ℕ, ◌<◌, ◌≤◌, ◌^◌, ℤ, pos, Bool, List, length, map, codes, IfSome}
 use Rattle.std.specs.List.{All}
 use Rattle.std.specs.Int.{is_in_range}
 use Rattle.std.specs.Cmp.Lexicographic.{slice_cmp}
@@ -31,13 +31,13 @@ is_visible b = is_in_range 0x21 0x7E b
 abbrev pub menu_name : List ℕ
 menu_name = codes "__Versioned_rpc.Menu"
 
-abbrev pub longest_name : ℕ
-longest_name = 255
+abbrev pub longest_rpc_name : ℕ
+longest_rpc_name = 255
 
 pub record IsRpcName (name : List ℕ) : Type 0 where
   pub visible : Each (Is is_visible) name
   pub some : 1 ≤ length name
-  pub short : length name ≤ longest_name
+  pub short : length name ≤ longest_rpc_name
   pub other : name ≢ menu_name
 
 -- versions have 62 bits
@@ -64,21 +64,21 @@ pub record IsDesc (d : RpcDesc) : Type 0 where
   pub used : IsUsedBy d.kind d.first d.item d.error
 
 -- a list of texts
-abbrev pub texts : Shape
-texts = shp.List shp.Text
+abbrev pub text_list : Shape
+text_list = shp.List shp.Text
 
 -- a value of the form, however long its texts and lists are
-abbrev pub IsOf : Form → Value → Type 0
-IsOf f v = (m : ℕ) × Fits m f v
+abbrev pub IsAnyOf : Form → Value → Type 0
+IsAnyOf f v = (m : ℕ) × Fits m f v
 
 -- a behaviour suits a procedure, by its kind and its shapes
 abbrev pub Suits : RpcDesc → Behaviour → Type 0
 Suits d act.Echo = (d.kind ≡ Plain) × (d.first ≡ d.query)
-Suits d (act.Const v) = (d.kind ≡ Plain) × IsOf (form_of d.first) v
-Suits d act.Notes = (d.kind ≡ Plain) × (d.query ≡ shp.Unit) × (d.first ≡ texts)
+Suits d (act.Const v) = (d.kind ≡ Plain) × IsAnyOf (form_of d.first) v
+Suits d act.Notes = (d.kind ≡ Plain) × (d.query ≡ shp.Unit) × (d.first ≡ text_list)
 Suits d act.Note = (d.kind ≡ OneWay) × (d.query ≡ shp.Text)
 Suits d act.Each = (d.kind ≡ Pipe) × (d.query ≡ shp.List d.item)
-Suits d act.Follow = (d.kind ≡ State) × (d.query ≡ shp.Unit) × (d.first ≡ texts) × (d.item ≡ shp.Text)
+Suits d act.Follow = (d.kind ≡ State) × (d.query ≡ shp.Unit) × (d.first ≡ text_list) × (d.item ≡ shp.Text)
 
 -- ---- the entries of a schema
 

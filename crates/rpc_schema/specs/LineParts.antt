@@ -15,12 +15,9 @@ abbrev pub NextRefused : {A : Type 0} → (A → List ℕ → List ℕ → Type 
     → List ℕ → List ℕ → Type 0
 NextRefused {A = A} P N M s x = N s x ⊎ ((a : A) × (t : List ℕ) × P a s t × M a t x)
 
--- no part: a value that is known by then, which is never refused
+-- no part: a value that is known by then
 abbrev pub Known : {A : Type 0} → A → A → List ℕ → List ℕ → Type 0
 Known a b s u = (b ≡ a) × (u ≡ s)
-
-abbrev pub Never : List ℕ → List ℕ → Type 0
-Never s x = ⊥
 
 -- none of the values of the part stands in front
 abbrev pub Lacks : {A : Type 0} → (A → List ℕ → List ℕ → Type 0) → List ℕ → List ℕ → Type 0
@@ -29,15 +26,15 @@ Lacks {A = A} P s x = ((a : A) (u : List ℕ) → P a s u → ⊥) × (x ≡ aft
 -- ---- single parts
 
 -- the longest run of name bytes after the blanks, and what stands after it
-abbrev pub word : List ℕ → List ℕ
-word s = (span in_name (after_blanks s)).0
+abbrev pub front_word : List ℕ → List ℕ
+front_word s = (span in_name (after_blanks s)).0
 
 abbrev pub behind_word : List ℕ → List ℕ
 behind_word s = (span in_name (after_blanks s)).1
 
 -- a word that stands for a value
 abbrev pub WordFor : {A : Type 0} → (A → List ℕ → Type 0) → A → List ℕ → List ℕ → Type 0
-WordFor Spells a s u = Spells a (word s) × (u ≡ behind_word s)
+WordFor Spells a s u = Spells a (front_word s) × (u ≡ behind_word s)
 
 -- these bytes
 abbrev pub Mark : List ℕ → Unit {0} → List ℕ → List ℕ → Type 0
@@ -51,8 +48,8 @@ abbrev pub End : Unit {0} → List ℕ → List ℕ → Type 0
 End a s u = IsEnded s u
 
 -- the longest run of a class has n bytes
-abbrev pub IsRun : (ℕ → Bool) → List ℕ → ℕ → Type 0
-IsRun C s n = (n ≤ length s) × (span C s ≡ (take n s, drop n s))
+abbrev pub HasRun : (ℕ → Bool) → List ℕ → ℕ → Type 0
+HasRun C s n = (n ≤ length s) × (span C s ≡ (take n s, drop n s))
 
 abbrev pub starts_blank : List ℕ → Bool
 starts_blank [] = false

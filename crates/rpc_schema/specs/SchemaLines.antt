@@ -1,5 +1,5 @@
 -- The grammar of a line of a schema, and where a line that is none is refused.
-use Rattle.std.specs.Prelude.{◌≡◌, ℕ, ◌<◌, ◌-◌, ◌^◌, ℤ, pos, List, [], ◌∷◌, length, drop, codes, Option, Some, None, ◌⊎◌}
+use Rattle.std.specs.Prelude.{◌≡◌, ℕ, ◌<◌, ◌-◌, ◌^◌, ℤ, pos, List, [], length, drop, codes, Option, Some, None, ◌⊎◌}
 use Rattle.std.specs.Fmt.{decimal}
 use Rattle.bp_value.specs.declared.shape.Shape.{Shape}
 use Rattle.bp_value.specs.declared.shape.Shape.TheVariants as shp
@@ -20,7 +20,7 @@ use Rattle.rpc_schema.specs.declared.desc.Entry.{Entry}
 use Rattle.rpc_schema.specs.declared.heads.Head.{Head}
 use Rattle.rpc_schema.specs.declared.shapes.Shapes.{Shapes}
 use Rattle.rpc_schema.specs.Entries.{is_visible, IsRpcName, Suits}
-use Rattle.rpc_schema.specs.LineParts.{Next, NextRefused, Known, Never, Lacks, word, behind_word, WordFor, Mark, IsEnded, End, RunOf}
+use Rattle.rpc_schema.specs.LineParts.{Next, NextRefused, Known, Lacks, WordFor, Mark, IsEnded, End, RunOf}
 
 -- ---- what stands before the shapes
 
@@ -41,8 +41,8 @@ IsKind kind s u = WordFor (λ k w. w ≡ kind_word k) kind s u
 abbrev pub IsSide : Side → List ℕ → List ℕ → Type 0
 IsSide side s u = WordFor (λ d w. w ≡ side_word d) side s u
 
-abbrev pub IsName : List ℕ → List ℕ → List ℕ → Type 0
-IsName name s u = RunOf is_visible name s u × IsRpcName name
+abbrev pub IsNamePart : List ℕ → List ℕ → List ℕ → Type 0
+IsNamePart name s u = RunOf is_visible name s u × IsRpcName name
 
 -- a decimal, without sign and without zeros in front
 abbrev pub SpellsVersion : ℤ → List ℕ → Type 0
@@ -70,15 +70,15 @@ abbrev pub VersionedRefused : List ℕ → List ℕ → Type 0
 VersionedRefused s x = NextRefused IsVersionPart (Lacks IsVersionPart) (λ version. SidedRefused) s x
 
 -- NAME VERSION SIDE =
-abbrev pub IsNamed : Kind → Head → List ℕ → List ℕ → Type 0
-IsNamed kind head s u = Next IsName (λ name. IsVersioned kind name) head s u
+abbrev pub IsNamedHead : Kind → Head → List ℕ → List ℕ → Type 0
+IsNamedHead kind head s u = Next IsNamePart (λ name. IsVersioned kind name) head s u
 
 abbrev pub NamedRefused : List ℕ → List ℕ → Type 0
-NamedRefused s x = NextRefused IsName (Lacks IsName) (λ name. VersionedRefused) s x
+NamedRefused s x = NextRefused IsNamePart (Lacks IsNamePart) (λ name. VersionedRefused) s x
 
 -- KIND NAME VERSION SIDE =
-abbrev pub IsHead : Head → List ℕ → List ℕ → Type 0
-IsHead head s u = Next IsKind IsNamed head s u
+abbrev pub IsLineHead : Head → List ℕ → List ℕ → Type 0
+IsLineHead head s u = Next IsKind IsNamedHead head s u
 
 abbrev pub HeadRefused : List ℕ → List ℕ → Type 0
 HeadRefused s x = NextRefused IsKind (Lacks IsKind) (λ kind. NamedRefused) s x
@@ -226,12 +226,12 @@ DescribedRefused head s x =
     NextRefused (AreShapes head.kind) (ShapesRefused head.kind) (λ shapes. TailRefused (desc_of head shapes)) s x
 
 -- a line of this number
-abbrev pub IsSchemaLine : ℕ → Entry → List ℕ → List ℕ → Type 0
-IsSchemaLine number entry s u = Next IsHead (IsDescribed number) entry s u
+abbrev pub IsLineOf : ℕ → Entry → List ℕ → List ℕ → Type 0
+IsLineOf number entry s u = Next IsLineHead (IsDescribed number) entry s u
 
 abbrev pub SchemaLineRefused : List ℕ → List ℕ → Type 0
-SchemaLineRefused s x = NextRefused IsHead HeadRefused DescribedRefused s x
+SchemaLineRefused s x = NextRefused IsLineHead HeadRefused DescribedRefused s x
 
 -- the line is refused at the byte of this place
-abbrev pub IsRefusedAt : List ℕ → ℕ → Type 0
-IsRefusedAt s at = (x : List ℕ) × SchemaLineRefused s x × (at ≡ length s - length x)
+abbrev pub IsLineRefusedAt : List ℕ → ℕ → Type 0
+IsLineRefusedAt s at = (x : List ℕ) × SchemaLineRefused s x × (at ≡ length s - length x)

@@ -3,16 +3,15 @@ use Rattle.std.specs.Prelude.{◌≡◌, ℕ, List, [], ◌∷◌, ◌++◌, map
 use Rattle.std.specs.List.{AllZip, Contains}
 use Rattle.bp_value.specs.Names.{IsDistinct}
 use Rattle.rpc_schema.specs.declared.desc.Entry.{Entry}
-use Rattle.rpc_schema.specs.declared.desc.Listing.{Listing}
 use Rattle.rpc_schema.specs.declared.error.SchemaError.{SchemaError}
 use Rattle.rpc_schema.specs.declared.error.SchemaError.TheVariants as error
 use Rattle.rpc_schema.specs.Entries.{listing_of}
 use Rattle.rpc_schema.specs.TextLines.{Numbered, lines_read}
-use Rattle.rpc_schema.specs.SchemaLines.{IsSchemaLine, IsRefusedAt}
+use Rattle.rpc_schema.specs.SchemaLines.{IsLineOf, IsLineRefusedAt}
 
 -- the entry is that of the line, to the line's end
 abbrev pub IsEntryLine : Entry → Numbered → Type 0
-IsEntryLine e l = IsSchemaLine l.number e l.bytes []
+IsEntryLine e l = IsLineOf l.number e l.bytes []
 
 -- lines of the entries, of which no two have one name and version
 pub record AreEntryLines (es : List Entry) (ls : List Numbered) : Type 0 where
@@ -23,7 +22,7 @@ abbrev pub IsSchemaText : List Entry → List ℕ → Type 0
 IsSchemaText es text = AreEntryLines es (lines_read text)
 
 -- the lines before this one are of entries
-pub record Reaches (ls : List Numbered) (l : Numbered) : Type 0 where
+pub record ReachesLine (ls : List Numbered) (l : Numbered) : Type 0 where
   pub before : List Numbered
   pub behind : List Numbered
   pub cut : ls ≡ before ++ l ∷ behind
@@ -31,15 +30,15 @@ pub record Reaches (ls : List Numbered) (l : Numbered) : Type 0 where
   pub good : AreEntryLines entries before
 
 -- the first line at fault is of no entry, and refused at this byte
-pub record IsBadLine (text : List ℕ) (number at : ℕ) : Type 0 where
+pub record IsBadSchemaLine (text : List ℕ) (number at : ℕ) : Type 0 where
   pub bytes : List ℕ
-  pub reached : Reaches (lines_read text) (record { number = number; bytes = bytes })
-  pub refused : IsRefusedAt bytes at
+  pub reached : ReachesLine (lines_read text) (record { number = number; bytes = bytes })
+  pub refused : IsLineRefusedAt bytes at
 
 -- the first line at fault has the name and version of an earlier one
 pub record IsTwice (text : List ℕ) (number : ℕ) : Type 0 where
   pub bytes : List ℕ
-  pub reached : Reaches (lines_read text) (record { number = number; bytes = bytes })
+  pub reached : ReachesLine (lines_read text) (record { number = number; bytes = bytes })
   pub entry : Entry
   pub line : IsEntryLine entry (record { number = number; bytes = bytes })
   pub earlier : Contains (map listing_of reached.entries) (listing_of entry)
@@ -47,7 +46,7 @@ pub record IsTwice (text : List ℕ) (number : ℕ) : Type 0 where
 -- ---- answers
 
 abbrev pub RefusesSchema : List ℕ → SchemaError → Type 0
-RefusesSchema text (error.BadLine number at) = IsBadLine text number at
+RefusesSchema text (error.BadLine number at) = IsBadSchemaLine text number at
 RefusesSchema text (error.Twice number) = IsTwice text number
 RefusesSchema text error.OutOfMemory = Unit {0}
 

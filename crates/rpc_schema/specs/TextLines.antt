@@ -9,14 +9,14 @@ line_end = 0x0A
 abbrev pub comment_mark : ℕ
 comment_mark = 0x23
 
-abbrev pub without_last_empty : List (List ℕ) → List (List ℕ)
-without_last_empty [] = []
-without_last_empty ([] ∷ []) = []
-without_last_empty (line ∷ lines) = line ∷ without_last_empty lines
+abbrev pub without_empty_last : List (List ℕ) → List (List ℕ)
+without_empty_last [] = []
+without_empty_last ([] ∷ []) = []
+without_empty_last (line ∷ lines) = line ∷ without_empty_last lines
 
 -- the lines of a text: each ends with the byte 10, and the last may lack it
-abbrev pub lines_of : List ℕ → List (List ℕ)
-lines_of text = without_last_empty (slice_split (λ b. nat_eq b line_end) text)
+abbrev pub text_lines : List ℕ → List (List ℕ)
+text_lines text = without_empty_last (slice_split (λ b. nat_eq b line_end) text)
 
 -- a line with its number
 pub record Numbered : Type 0 where
@@ -24,9 +24,9 @@ pub record Numbered : Type 0 where
   pub bytes : List ℕ
 
 -- numbered one by one, from a number on
-abbrev pub numbered : ℕ → List (List ℕ) → List Numbered
-numbered n [] = []
-numbered n (l ∷ ls) = record { number = n; bytes = l } ∷ numbered (n + 1) ls
+abbrev pub numbered_from : ℕ → List (List ℕ) → List Numbered
+numbered_from n [] = []
+numbered_from n (l ∷ ls) = record { number = n; bytes = l } ∷ numbered_from (n + 1) ls
 
 -- an empty line, and a line that begins with `#`
 abbrev pub is_skipped : List ℕ → Bool
@@ -35,4 +35,4 @@ is_skipped (b ∷ l) = nat_eq b comment_mark
 
 -- the lines that say something, with their numbers in the text, which count from 1
 abbrev pub lines_read : List ℕ → List Numbered
-lines_read text = filter (λ l. not (is_skipped l.bytes)) (numbered 1 (lines_of text))
+lines_read text = filter (λ l. not (is_skipped l.bytes)) (numbered_from 1 (text_lines text))

@@ -5,9 +5,9 @@ ghost use Rattle.bp_value.specs.Form.{form_of};
 ghost use Rattle.bp_value.specs.Faults.{IsGood};
 ghost use Rattle.rpc_schema.specs.declared.desc.Behaviour.{Behaviour};
 ghost use Rattle.rpc_schema.specs.declared.desc.Kind.TheVariants.{Plain};
-ghost use Rattle.rpc_schema.specs.Entries.{texts, Suits};
-ghost use Rattle.rpc_schema.specs.LineParts.{word, Lacks};
-ghost use Rattle.rpc_schema.specs.LineAnswers.{Takes};
+ghost use Rattle.rpc_schema.specs.Entries.{text_list, Suits};
+ghost use Rattle.rpc_schema.specs.LineParts.{front_word, Lacks};
+ghost use Rattle.rpc_schema.specs.LineAnswers.{TakesOne};
 ghost use Rattle.rpc_schema.specs.SchemaLines.{ActPartRefused, BehaviourRefused, ConstPartRefused, DoingRefused, IsAct, IsActPart, IsBehaviour, IsConstPart, IsConstant, IsDo, IsDoing, IsTail, SpellsAct, TailRefused};
 
 use crate::desc::{Behaviour, Kind, RpcDesc};
@@ -20,7 +20,7 @@ use std::alloc::Global;
 /// Takes the rest of a line: nothing, or `do` and a behaviour that suits.
 pub fn tail(line: &mut Line, desc: &RpcDesc, alloc: Global) -> Result<Option<Behaviour>, Stop>
     requires { IsGood (form_of desc.now.first) }
-    ensures takes { Takes (IsTail desc.now) (TailRefused desc.now) line.old line.new result }
+    ensures takes { TakesOne (IsTail desc.now) (TailRefused desc.now) line.old line.new result }
     ensures suits { IfOk result (λ behaviour. IfSome behaviour (Suits desc.now)) }
 {
     if line.is_ended() {
@@ -33,7 +33,7 @@ pub fn tail(line: &mut Line, desc: &RpcDesc, alloc: Global) -> Result<Option<Beh
 // `do` and a behaviour.
 fn doing(line: &mut Line, desc: &RpcDesc, alloc: Global) -> Result<Behaviour, Stop>
     requires { IsGood (form_of desc.now.first) }
-    ensures takes { Takes (IsDoing desc.now) (DoingRefused desc.now) line.old line.new result }
+    ensures takes { TakesOne (IsDoing desc.now) (DoingRefused desc.now) line.old line.new result }
     ensures suits { IfOk result (Suits desc.now) }
 {
     take_do(line)?;
@@ -41,7 +41,7 @@ fn doing(line: &mut Line, desc: &RpcDesc, alloc: Global) -> Result<Behaviour, St
 }
 
 fn take_do(line: &mut Line) -> Result<(), Stop>
-    ensures { Takes IsDo (Lacks IsDo) line.old line.new result }
+    ensures { TakesOne IsDo (Lacks IsDo) line.old line.new result }
 {
     let is_do = line.word() == b"do".as_slice();
     line.take_word(is_do.then_some(()))
@@ -49,7 +49,8 @@ fn take_do(line: &mut Line) -> Result<(), Stop>
 
 fn behaviour(line: &mut Line, desc: &RpcDesc, alloc: Global) -> Result<Behaviour, Stop>
     requires { IsGood (form_of desc.now.first) }
-    ensures takes { Takes (IsBehaviour desc.now) (BehaviourRefused desc.now) line.old line.new result }
+    ensures takes { TakesOne (IsBehaviour desc.now) (BehaviourRefused desc.now)
+        line.old line.new result }
     ensures suits { IfOk result (Suits desc.now) }
 {
     if is_const(line.word(), desc) {
@@ -69,9 +70,10 @@ fn is_const(word: &[u8], desc: &RpcDesc) -> bool
 // `const` and a value.
 fn constant_part(line: &mut Line, desc: &RpcDesc, alloc: Global) -> Result<Behaviour, Stop>
     requires good { IsGood (form_of desc.now.first) }
-    requires word { word line.old ≡ codes "const" }
+    requires word { front_word line.old ≡ codes "const" }
     requires plain { desc.now.kind ≡ Plain }
-    ensures takes { Takes (IsConstPart desc.now) (ConstPartRefused desc.now) line.old line.new result }
+    ensures takes { TakesOne (IsConstPart desc.now) (ConstPartRefused desc.now)
+        line.old line.new result }
     ensures suits { IfOk result (Suits desc.now) }
 {
     line.pass_word();
@@ -80,7 +82,8 @@ fn constant_part(line: &mut Line, desc: &RpcDesc, alloc: Global) -> Result<Behav
 
 // A behaviour that has no value, to the end of the line.
 fn act_part(line: &mut Line, desc: &RpcDesc) -> Result<Behaviour, Stop>
-    ensures takes { Takes (IsActPart desc.now) (ActPartRefused desc.now) line.old line.new result }
+    ensures takes { TakesOne (IsActPart desc.now) (ActPartRefused desc.now)
+        line.old line.new result }
     ensures suits { IfOk result (Suits desc.now) }
 {
     let act = act(line, desc)?;
@@ -92,7 +95,8 @@ fn act_part(line: &mut Line, desc: &RpcDesc) -> Result<Behaviour, Stop>
 fn constant(line: &mut Line, desc: &RpcDesc, alloc: Global) -> Result<Behaviour, Stop>
     requires good { IsGood (form_of desc.now.first) }
     requires plain { desc.now.kind ≡ Plain }
-    ensures takes { Takes (IsConstant desc.now) (Lacks (IsConstant desc.now)) line.old line.new result }
+    ensures takes { TakesOne (IsConstant desc.now) (Lacks (IsConstant desc.now))
+        line.old line.new result }
     ensures suits { IfOk result (Suits desc.now) }
 {
     match read_value(alloc, &desc.first, line.rest()) {
@@ -111,7 +115,7 @@ fn constant(line: &mut Line, desc: &RpcDesc, alloc: Global) -> Result<Behaviour,
 
 // A behaviour that has no value.
 fn act(line: &mut Line, desc: &RpcDesc) -> Result<Behaviour, Stop>
-    ensures takes { Takes (IsAct desc.now) (Lacks (IsAct desc.now)) line.old line.new result }
+    ensures takes { TakesOne (IsAct desc.now) (Lacks (IsAct desc.now)) line.old line.new result }
     ensures suits { IfOk result (Suits desc.now) }
 {
     let act = suiting(line.word(), desc);
@@ -120,7 +124,8 @@ fn act(line: &mut Line, desc: &RpcDesc) -> Result<Behaviour, Stop>
 
 // The behaviour of this word, if it suits.
 fn suiting(word: &[u8], desc: &RpcDesc) -> Option<Behaviour>
-    ensures { MatchOption result ((act : Behaviour) → SpellsAct act word.now × Suits desc.now act → ⊥)
+    ensures { MatchOption result
+        ((act : Behaviour) → SpellsAct act word.now × Suits desc.now act → ⊥)
         (λ act. SpellsAct act word.now × Suits desc.now act) }
 {
     match act_named(word) {
@@ -130,7 +135,8 @@ fn suiting(word: &[u8], desc: &RpcDesc) -> Option<Behaviour>
 }
 
 fn act_named(word: &[u8]) -> Option<Behaviour>
-    ensures { MatchOption result ((act : Behaviour) → SpellsAct act word.now → ⊥) (λ act. SpellsAct act word.now) }
+    ensures { MatchOption result ((act : Behaviour) → SpellsAct act word.now → ⊥)
+        (λ act. SpellsAct act word.now) }
 {
     match word {
         b"echo" => Some(Behaviour::Echo),
@@ -176,7 +182,7 @@ fn is_text(shape: &Shape) -> bool
 }
 
 fn is_texts(shape: &Shape) -> bool
-    ensures { IsTrue result ↔ (shape.now ≡ texts) }
+    ensures { IsTrue result ↔ (shape.now ≡ text_list) }
 {
     is_list_of(shape, &Shape::Text)
 }

@@ -1,11 +1,12 @@
-// What stands before the shapes of a line: how a procedure is called, its name and version, and who has it.
+// What stands before the shapes of a line: how a procedure is called, its name and version, and who
+// has it.
 ghost use Rattle.std.specs.Prelude.{◌≡◌, ◌≢◌, ◌↔◌, ℕ, ◌≤◌, ℤ, IsTrue, MatchOption};
 ghost use Rattle.std.specs.Fmt.{decimal};
 ghost use Rattle.readers.specs.Reader.{Each, Is};
 ghost use Rattle.rpc_schema.specs.Entries.{is_visible, IsRpcName};
 ghost use Rattle.rpc_schema.specs.LineParts.{Lacks};
-ghost use Rattle.rpc_schema.specs.LineAnswers.{Takes};
-ghost use Rattle.rpc_schema.specs.SchemaLines.{kind_word, side_word, IsKind, IsSide, IsName, IsVersionPart, IsSided, SidedRefused, IsVersioned, VersionedRefused, IsNamed, NamedRefused, IsHead, HeadRefused, SpellsVersion};
+ghost use Rattle.rpc_schema.specs.LineAnswers.{TakesOne};
+ghost use Rattle.rpc_schema.specs.SchemaLines.{kind_word, side_word, IsKind, IsSide, IsNamePart, IsVersionPart, IsSided, SidedRefused, IsVersioned, VersionedRefused, IsNamedHead, NamedRefused, IsLineHead, HeadRefused, SpellsVersion};
 ghost use Rattle.rpc_schema.specs.declared.desc.Kind.{Kind};
 ghost use Rattle.rpc_schema.specs.declared.desc.Side.{Side};
 
@@ -35,7 +36,7 @@ pub struct Head {
 
 /// Takes `KIND NAME VERSION SIDE =`.
 pub fn take_head(line: &mut Line, alloc: Global) -> Result<Head, Stop>
-    ensures { Takes IsHead HeadRefused line.old line.new result }
+    ensures { TakesOne IsLineHead HeadRefused line.old line.new result }
 {
     let kind = kind(line)?;
     named(line, kind, alloc)
@@ -43,7 +44,7 @@ pub fn take_head(line: &mut Line, alloc: Global) -> Result<Head, Stop>
 
 // `NAME VERSION SIDE =`
 fn named(line: &mut Line, kind: Kind, alloc: Global) -> Result<Head, Stop>
-    ensures { Takes (IsNamed kind) NamedRefused line.old line.new result }
+    ensures { TakesOne (IsNamedHead kind) NamedRefused line.old line.new result }
 {
     let name = name(line, alloc)?;
     versioned(line, kind, name)
@@ -51,7 +52,7 @@ fn named(line: &mut Line, kind: Kind, alloc: Global) -> Result<Head, Stop>
 
 // `VERSION SIDE =`
 fn versioned(line: &mut Line, kind: Kind, name: Blob) -> Result<Head, Stop>
-    ensures { Takes (IsVersioned kind name) VersionedRefused line.old line.new result }
+    ensures { TakesOne (IsVersioned kind name) VersionedRefused line.old line.new result }
 {
     let version = version(line)?;
     let side = sided(line)?;
@@ -65,7 +66,7 @@ fn versioned(line: &mut Line, kind: Kind, name: Blob) -> Result<Head, Stop>
 
 // `SIDE =`
 fn sided(line: &mut Line) -> Result<Side, Stop>
-    ensures { Takes IsSided SidedRefused line.old line.new result }
+    ensures { TakesOne IsSided SidedRefused line.old line.new result }
 {
     let side = side(line)?;
     line.take_mark(b"=")?;
@@ -73,14 +74,15 @@ fn sided(line: &mut Line) -> Result<Side, Stop>
 }
 
 fn kind(line: &mut Line) -> Result<Kind, Stop>
-    ensures { Takes IsKind (Lacks IsKind) line.old line.new result }
+    ensures { TakesOne IsKind (Lacks IsKind) line.old line.new result }
 {
     let kind = kind_named(line.word());
     line.take_word(kind)
 }
 
 fn kind_named(word: &[u8]) -> Option<Kind>
-    ensures { MatchOption result ((kind : Kind) → word.now ≢ kind_word kind) (λ kind. word.now ≡ kind_word kind) }
+    ensures { MatchOption result ((kind : Kind) → word.now ≢ kind_word kind)
+        (λ kind. word.now ≡ kind_word kind) }
 {
     match word {
         b"plain" => Some(Kind::Plain),
@@ -92,14 +94,15 @@ fn kind_named(word: &[u8]) -> Option<Kind>
 }
 
 fn side(line: &mut Line) -> Result<Side, Stop>
-    ensures { Takes IsSide (Lacks IsSide) line.old line.new result }
+    ensures { TakesOne IsSide (Lacks IsSide) line.old line.new result }
 {
     let side = side_named(line.word());
     line.take_word(side)
 }
 
 fn side_named(word: &[u8]) -> Option<Side>
-    ensures { MatchOption result ((side : Side) → word.now ≢ side_word side) (λ side. word.now ≡ side_word side) }
+    ensures { MatchOption result ((side : Side) → word.now ≢ side_word side)
+        (λ side. word.now ≡ side_word side) }
 {
     match word {
         b"both" => Some(Side::Both),
@@ -110,7 +113,7 @@ fn side_named(word: &[u8]) -> Option<Side>
 }
 
 fn version(line: &mut Line) -> Result<i64, Stop>
-    ensures { Takes IsVersionPart (Lacks IsVersionPart) line.old line.new result }
+    ensures { TakesOne IsVersionPart (Lacks IsVersionPart) line.old line.new result }
 {
     let version = version_named(line.word());
     line.take_word(version)
@@ -145,7 +148,7 @@ fn number(word: &[u8], max: u64) -> Option<u64>
 }
 
 fn name(line: &mut Line, alloc: Global) -> Result<Blob, Stop>
-    ensures { Takes IsName (Lacks IsName) line.old line.new result }
+    ensures { TakesOne IsNamePart (Lacks IsNamePart) line.old line.new result }
 {
     let mut behind = Line::new(line.rest());
     behind.skip_blanks();

@@ -5,8 +5,8 @@ ghost use Rattle.bp_text_grammar.specs.Lexing.{blank};
 ghost use Rattle.bp_text_grammar.specs.Scanning.{after_blanks, span};
 ghost use Rattle.rpc_schema.specs.Entries as entries;
 ghost use Rattle.rpc_schema.specs.LineParts as parts;
-ghost use Rattle.rpc_schema.specs.LineParts.{Mark, End, IsRun, Lacks};
-ghost use Rattle.rpc_schema.specs.LineAnswers.{Takes, TakesWord};
+ghost use Rattle.rpc_schema.specs.LineParts.{Mark, End, HasRun, Lacks};
+ghost use Rattle.rpc_schema.specs.LineAnswers.{TakesOne, TakesWord};
 
 use crate::stop::Stop;
 use std::marker::Model;
@@ -26,12 +26,14 @@ impl<'a> Model for Line<'a> {
 }
 
 impl<'a> Line<'a> {
+    /// A line of which nothing is taken.
     pub fn new(bytes: &'a [u8]) -> Line<'a>
         ensures { result ≡ bytes.now }
     {
         Line { rest: bytes }
     }
 
+    /// The bytes that are left.
     pub fn rest(&self) -> &'a [u8]
         ensures { result.now ≡ self.now }
     {
@@ -73,7 +75,7 @@ impl<'a> Line<'a> {
 
     /// The word in front: the longest run of letters, digits, `_` and `'` after the blanks.
     pub fn word(&self) -> &'a [u8]
-        ensures { result.now ≡ parts.word self.now }
+        ensures { result.now ≡ parts.front_word self.now }
     {
         let bytes = after_blanks(self.rest);
         let (word, _) = bytes.split_at(word_len(bytes));
@@ -117,7 +119,7 @@ impl<'a> Line<'a> {
 
     /// Takes these bytes.
     pub fn take_mark(&mut self, mark: &[u8]) -> Result<(), Stop>
-        ensures { Takes (Mark mark.now) (Lacks (Mark mark.now)) self.old self.new result }
+        ensures { TakesOne (Mark mark.now) (Lacks (Mark mark.now)) self.old self.new result }
     {
         match behind_mark(self.rest, mark) {
             Some(rest) => {
@@ -133,7 +135,7 @@ impl<'a> Line<'a> {
 
     /// Takes the end of the line.
     pub fn end(&mut self) -> Result<(), Stop>
-        ensures { Takes End (Lacks End) self.old self.new result }
+        ensures { TakesOne End (Lacks End) self.old self.new result }
     {
         self.skip_blanks();
         match self.rest {
@@ -171,7 +173,7 @@ fn behind_mark<'a>(bytes: &'a [u8], mark: &[u8]) -> Option<&'a [u8]>
 
 // How many name bytes stand in front.
 fn word_len(bytes: &[u8]) -> usize
-    ensures { IsRun lexing.in_name bytes.now result }
+    ensures { HasRun lexing.in_name bytes.now result }
 {
     let end = bytes.iter().position(|byte| !in_name(*byte));
     end.unwrap_or(bytes.len())
@@ -179,7 +181,7 @@ fn word_len(bytes: &[u8]) -> usize
 
 // How many visible bytes stand in front.
 fn visible_len(bytes: &[u8]) -> usize
-    ensures { IsRun entries.is_visible bytes.now result }
+    ensures { HasRun entries.is_visible bytes.now result }
 {
     let end = bytes.iter().position(|byte| !is_visible(*byte));
     end.unwrap_or(bytes.len())

@@ -3,7 +3,7 @@ ghost use Rattle.std.specs.Prelude.{◌≡◌, ◌↔◌, List, [], ◌∷◌, �
 ghost use Rattle.std.specs.List.{All, Contains};
 ghost use Rattle.rpc_schema.specs.declared.desc.Listing.{Listing};
 ghost use Rattle.bp_value.specs.Form.{form_of};
-ghost use Rattle.rpc_schema.specs.Entries.{IsOf};
+ghost use Rattle.rpc_schema.specs.Entries.{IsAnyOf};
 ghost use Rattle.rpc_schema.specs.Choice.{menu_description, menu_shape, menu_value, listing_value, IsListing, IsChoice, IsAtLeast};
 
 use crate::desc::{Kind, Listing, Menu, RpcDesc};
@@ -41,7 +41,7 @@ fn menu_shape(alloc: Global) -> Result<Shape, OutOfMemory>
 
 /// The menu that an answer tells.
 pub fn menu_from(alloc: Global, value: &Value) -> Result<Menu, OutOfMemory>
-    requires { IsOf (form_of menu_shape) value.now }
+    requires { IsAnyOf (form_of menu_shape) value.now }
     ensures { IfOk result (λ menu. value.now ≡ menu_value menu.entries) }
 {
     let Value::Items(items) = value else {
@@ -117,7 +117,8 @@ fn version_of(listing: &Listing) -> Option<i64>
 
 // Whether the entry is one of the name, and of a version of one's own.
 fn is_candidate(own: &[i64], listing: &Listing, name: &[u8]) -> bool
-    ensures { IsTrue result ↔ ((listing.now.name ≡ name.now) × Contains own.now listing.now.version) }
+    ensures { IsTrue result
+        ↔ ((listing.now.name ≡ name.now) × Contains own.now listing.now.version) }
 {
     listing.name.as_slice() == name && own.contains(&listing.version)
 }

@@ -2,10 +2,10 @@
 ghost use Rattle.std.specs.Prelude.{◌≡◌, [], nat_eq, IfOk, IfErr};
 ghost use Rattle.std.specs.List.{slice_split};
 ghost use Rattle.rpc_schema.specs.Entries.{AreEntries, IsEntry};
-ghost use Rattle.rpc_schema.specs.LineAnswers.{Takes};
-ghost use Rattle.rpc_schema.specs.SchemaLines.{desc_of, DescribedRefused, IsDescribed, IsSchemaLine, SchemaLineRefused};
+ghost use Rattle.rpc_schema.specs.LineAnswers.{TakesOne};
+ghost use Rattle.rpc_schema.specs.SchemaLines.{desc_of, DescribedRefused, IsDescribed, IsLineOf, SchemaLineRefused};
 ghost use Rattle.rpc_schema.specs.SchemaTexts.{IsSchemaText, RefusesSchema, GivesSchema};
-ghost use Rattle.rpc_schema.specs.Reading.{slices, IsHeadGood, Marks, Adds, Follows, RefusesLine, RefusesEntry, RefusesNext};
+ghost use Rattle.rpc_schema.specs.Reading.{slices, IsHeadGood, Marks, AddsEntry, FollowsLine, RefusesLine, RefusesEntry, RefusesNext};
 ghost use Rattle.rpc_schema.specs.TextLines as lines;
 ghost use Rattle.rpc_schema.specs.TextLines.{line_end};
 
@@ -37,14 +37,15 @@ pub fn read_entries(alloc: Global, text: &[u8]) -> Result<Vec<Entry>, SchemaErro
 
 // What stands before, between and after the ends of lines.
 fn parts_of(alloc: Global, text: &[u8]) -> Result<Vec<&[u8]>, AllocError>
-    ensures { IfOk result (λ parts. slices parts.items ≡ slice_split (λ byte. nat_eq byte line_end) text.now) }
+    ensures { IfOk result (λ parts. slices parts.items
+        ≡ slice_split (λ byte. nat_eq byte line_end) text.now) }
 {
     text.split(|byte| *byte == b'\n').collect(alloc)
 }
 
 // The lines of a text, by those parts.
 fn without_last_empty<'a>(parts: &'a [&'a [u8]]) -> &'a [&'a [u8]]
-    ensures { slices result.now ≡ lines.without_last_empty (slices parts.now) }
+    ensures { slices result.now ≡ lines.without_empty_last (slices parts.now) }
 {
     let [lines @ .., last] = parts else {
         return parts;
@@ -72,7 +73,8 @@ fn read_line(
 ) -> Result<(), SchemaError>
     requires { Marks seen.old entries.old.items }
     ensures marks { IfOk result (λ done. Marks seen.new entries.new.items) }
-    ensures added { IfOk result (λ done. Follows number bytes.now entries.old.items entries.new.items) }
+    ensures added { IfOk result (λ done.
+        FollowsLine number bytes.now entries.old.items entries.new.items) }
     ensures refused { IfErr result (λ e. RefusesNext number bytes.now entries.old.items e) }
 {
     if is_skipped(bytes) {
@@ -91,7 +93,8 @@ fn add(
 ) -> Result<(), SchemaError>
     requires { Marks seen.old entries.old.items }
     ensures marks { IfOk result (λ done. Marks seen.new entries.new.items) }
-    ensures added { IfOk result (λ done. Adds number bytes.now entries.old.items entries.new.items) }
+    ensures added { IfOk result (λ done.
+        AddsEntry number bytes.now entries.old.items entries.new.items) }
     ensures refused { IfErr result (RefusesEntry number bytes.now entries.old.items) }
 {
     let entry = read_entry(alloc, number, bytes)?;
@@ -104,7 +107,7 @@ fn add(
 
 // The entry of a line.
 fn read_entry(alloc: Global, number: u64, bytes: &[u8]) -> Result<Entry, SchemaError>
-    ensures spelled { IfOk result (λ entry. IsSchemaLine number entry bytes.now []) }
+    ensures spelled { IfOk result (λ entry. IsLineOf number entry bytes.now []) }
     ensures good { IfOk result (λ entry. IsEntry entry) }
     ensures refused { IfErr result (RefusesLine number bytes.now) }
 {
@@ -120,7 +123,7 @@ fn read_entry(alloc: Global, number: u64, bytes: &[u8]) -> Result<Entry, SchemaE
 }
 
 fn entry_at(line: &mut Line, number: u64, alloc: Global) -> Result<Entry, Stop>
-    ensures takes { Takes (IsSchemaLine number) SchemaLineRefused line.old line.new result }
+    ensures takes { TakesOne (IsLineOf number) SchemaLineRefused line.old line.new result }
     ensures good { IfOk result (λ entry. IsEntry entry) }
 {
     let head = take_head(line, alloc)?;
@@ -130,7 +133,8 @@ fn entry_at(line: &mut Line, number: u64, alloc: Global) -> Result<Entry, Stop>
 // What stands after the head of a line.
 fn described(line: &mut Line, number: u64, head: Head, alloc: Global) -> Result<Entry, Stop>
     requires { IsHeadGood head }
-    ensures takes { Takes (IsDescribed number head) (DescribedRefused head) line.old line.new result }
+    ensures takes { TakesOne (IsDescribed number head) (DescribedRefused head)
+        line.old line.new result }
     ensures good { IfOk result (λ entry. IsEntry entry) }
 {
     let shapes = take_shapes(line, head.kind, alloc)?;

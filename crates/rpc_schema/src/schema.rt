@@ -24,7 +24,6 @@ impl Model for Schema {
     ghost use Rattle.std.specs.Prelude.{List};
     ghost use Rattle.rpc_schema.specs.declared.desc.Entry.{Entry};
     ghost use Rattle.rpc_schema.specs.Entries.{AreEntries};
-
     ghost use Rattle.bp_value.specs.contracts.shape.Shape as shape;
     ghost use Rattle.bp_value.specs.contracts.value.Value as value;
     ghost use Rattle.std.specs.Coded.{codes};
@@ -123,7 +122,8 @@ impl Entry {
 
     // Adds its name and version, if it is offered.
     fn offer(&self, listings: &mut Vec<Listing>, alloc: Global) -> Result<(), OutOfMemory>
-        ensures { IfOk result (λ done. listings.new.items ≡ listings.old.items ++ offered (self.now ∷ [])) }
+        ensures { IfOk result (λ done. listings.new.items
+            ≡ listings.old.items ++ offered (self.now ∷ [])) }
     {
         if self.side.is_offered() {
             listings.push(self.listing(alloc)?)?;

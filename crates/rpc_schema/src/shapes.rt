@@ -2,7 +2,7 @@
 ghost use Rattle.std.specs.Prelude.{Err};
 ghost use Rattle.bp_value.specs.declared.shape.Shape.{Shape};
 ghost use Rattle.bp_text.specs.TextAnswers.{RefusesFront};
-ghost use Rattle.rpc_schema.specs.LineAnswers.{Takes};
+ghost use Rattle.rpc_schema.specs.LineAnswers.{TakesOne};
 ghost use Rattle.rpc_schema.specs.SchemaLines.{AreItems, AreShapes, IsShapePart, IsStateRest, ItemsRefused, Marked, MarkedRefused, ShapeRefused, ShapesRefused, StateRestRefused};
 ghost use Rattle.rpc_schema.specs.declared.desc.Kind.TheVariants.{Plain, OneWay, Pipe, State};
 
@@ -24,7 +24,7 @@ pub struct Shapes {
 
 /// Takes the shapes of a procedure of this kind.
 pub fn take_shapes(line: &mut Line, kind: Kind, alloc: Global) -> Result<Shapes, Stop>
-    ensures { Takes (AreShapes kind) (ShapesRefused kind) line.old line.new result }
+    ensures { TakesOne (AreShapes kind) (ShapesRefused kind) line.old line.new result }
 {
     match kind {
         Kind::Plain => plain_shapes(line, alloc),
@@ -36,7 +36,7 @@ pub fn take_shapes(line: &mut Line, kind: Kind, alloc: Global) -> Result<Shapes,
 
 // `QUERY -> ANSWER`
 fn plain_shapes(line: &mut Line, alloc: Global) -> Result<Shapes, Stop>
-    ensures { Takes (AreShapes Plain) (ShapesRefused Plain) line.old line.new result }
+    ensures { TakesOne (AreShapes Plain) (ShapesRefused Plain) line.old line.new result }
 {
     let query = shape(line, alloc)?;
     let first = marked(line, b"->", alloc)?;
@@ -50,7 +50,7 @@ fn plain_shapes(line: &mut Line, alloc: Global) -> Result<Shapes, Stop>
 
 // `QUERY`
 fn one_way_shapes(line: &mut Line, alloc: Global) -> Result<Shapes, Stop>
-    ensures { Takes (AreShapes OneWay) (ShapesRefused OneWay) line.old line.new result }
+    ensures { TakesOne (AreShapes OneWay) (ShapesRefused OneWay) line.old line.new result }
 {
     let query = shape(line, alloc)?;
     Ok(Shapes {
@@ -63,7 +63,7 @@ fn one_way_shapes(line: &mut Line, alloc: Global) -> Result<Shapes, Stop>
 
 // `QUERY -> ITEM ! ERROR`
 fn pipe_shapes(line: &mut Line, alloc: Global) -> Result<Shapes, Stop>
-    ensures { Takes (AreShapes Pipe) (ShapesRefused Pipe) line.old line.new result }
+    ensures { TakesOne (AreShapes Pipe) (ShapesRefused Pipe) line.old line.new result }
 {
     let query = shape(line, alloc)?;
     items(line, b"->", query, Shape::Unit, alloc)
@@ -71,7 +71,7 @@ fn pipe_shapes(line: &mut Line, alloc: Global) -> Result<Shapes, Stop>
 
 // `QUERY -> STATE , ITEM ! ERROR`
 fn state_shapes(line: &mut Line, alloc: Global) -> Result<Shapes, Stop>
-    ensures { Takes (AreShapes State) (ShapesRefused State) line.old line.new result }
+    ensures { TakesOne (AreShapes State) (ShapesRefused State) line.old line.new result }
 {
     let query = shape(line, alloc)?;
     state_rest(line, query, alloc)
@@ -79,7 +79,7 @@ fn state_shapes(line: &mut Line, alloc: Global) -> Result<Shapes, Stop>
 
 // `-> STATE , ITEM ! ERROR`
 fn state_rest(line: &mut Line, query: Shape, alloc: Global) -> Result<Shapes, Stop>
-    ensures { Takes (IsStateRest query) StateRestRefused line.old line.new result }
+    ensures { TakesOne (IsStateRest query) StateRestRefused line.old line.new result }
 {
     let first = marked(line, b"->", alloc)?;
     items(line, b",", query, first, alloc)
@@ -93,7 +93,8 @@ fn items(
     first: Shape,
     alloc: Global,
 ) -> Result<Shapes, Stop>
-    ensures { Takes (AreItems mark.now query first) (ItemsRefused mark.now) line.old line.new result }
+    ensures { TakesOne (AreItems mark.now query first) (ItemsRefused mark.now)
+        line.old line.new result }
 {
     let item = marked(line, mark, alloc)?;
     let error = marked(line, b"!", alloc)?;
@@ -107,7 +108,7 @@ fn items(
 
 // A mark, and a shape after it.
 fn marked(line: &mut Line, mark: &[u8], alloc: Global) -> Result<Shape, Stop>
-    ensures { Takes (Marked mark.now) (MarkedRefused mark.now) line.old line.new result }
+    ensures { TakesOne (Marked mark.now) (MarkedRefused mark.now) line.old line.new result }
 {
     line.take_mark(mark)?;
     shape(line, alloc)
@@ -115,7 +116,7 @@ fn marked(line: &mut Line, mark: &[u8], alloc: Global) -> Result<Shape, Stop>
 
 // A good shape, as many tokens long as begin some shape.
 fn shape(line: &mut Line, alloc: Global) -> Result<Shape, Stop>
-    ensures { Takes IsShapePart ShapeRefused line.old line.new result }
+    ensures { TakesOne IsShapePart ShapeRefused line.old line.new result }
 {
     match read_shape_front(alloc, line.rest(), 0) {
         Ok((shape, end)) => {
@@ -129,7 +130,7 @@ fn shape(line: &mut Line, alloc: Global) -> Result<Shape, Stop>
 // The line is refused where the shape in front of it is.
 fn refused(line: &mut Line, error: TextError) -> Stop
     requires { RefusesFront line.old 0 error }
-    ensures { Takes {A = Shape} IsShapePart ShapeRefused line.old line.new (Err result) }
+    ensures { TakesOne {A = Shape} IsShapePart ShapeRefused line.old line.new (Err result) }
 {
     match error {
         TextError::BadText { at } | TextError::Float { at } => {

@@ -33,7 +33,10 @@ fn reads_each_kind_and_behaviour(rt: HostRuntime) -> Result<(), Fail> {
     assert!(rt; matches!(follow.behaviour, Some(Behaviour::Follow)));
     assert!(rt; drop.behaviour.is_none());
     assert_eq!(rt; [echo.line, pi.line, log.line, logged.line], [2, 3, 4, 6]);
-    assert_eq!(rt; [each.desc.kind, follow.desc.kind], [Kind::Pipe, Kind::State]);
+    assert_eq!(rt;
+        [each.desc.kind, follow.desc.kind],
+        [Kind::Pipe, Kind::State]
+    );
     assert_eq!(rt; [pi.side, follow.side], [Side::Callee, Side::Caller]);
     assert_eq!(rt; drop.desc.version, 4_611_686_018_427_387_903);
     assert_eq!(rt; drop.desc.name.as_slice(), b"drop".as_slice());
@@ -63,7 +66,11 @@ fn refuses_a_line_at_its_place(rt: HostRuntime) -> Result<(), Fail> {
     ];
     for (line, at) in lines {
         let refusal = Schema::read(rt.alloc(), line.as_bytes()).err();
-        assert_eq!(rt; refusal, Some(SchemaError::BadLine { line: 1, at }), "at {line}");
+        assert_eq!(rt;
+            refusal,
+            Some(SchemaError::BadLine { line: 1, at }),
+            "at {line}"
+        );
     }
     Ok(())
 }
@@ -100,12 +107,22 @@ fn finds_and_offers_entries(rt: HostRuntime) -> Result<(), Fail> {
 
 #[test]
 fn sorts_a_menu_by_name_and_then_by_version(rt: HostRuntime) -> Result<(), Fail> {
-    let text = "oneway b 1 both = unit\noneway a 10 both = unit\noneway B 7 both = unit\noneway a 9 both = unit\noneway aa 0 both = unit";
+    let text = "oneway b 1 both = unit\noneway a 10 both = unit\noneway B 7 both = unit\n\
+        oneway a 9 both = unit\noneway aa 0 both = unit";
     let menu = Schema::read(rt.alloc(), text.as_bytes())?.menu_of(rt.alloc())?;
     let [one, two, three, four, five] = menu.entries.as_slice() else {
         return Err(Fail::new("another number of entries"));
     };
-    assert_eq!(rt; [one.version, two.version, three.version, four.version, five.version], [7, 9, 10, 0, 1]);
+    assert_eq!(rt;
+        [
+            one.version,
+            two.version,
+            three.version,
+            four.version,
+            five.version
+        ],
+        [7, 9, 10, 0, 1]
+    );
     Ok(())
 }
 
@@ -125,7 +142,9 @@ fn reads_a_menu(rt: HostRuntime) -> Result<(), Fail> {
 fn reads_many_lines(rt: HostRuntime) -> Result<(), Fail> {
     let mut text = String::new(rt.alloc());
     for version in 0..10_000 {
-        let line = format!(in rt.alloc(); "plain echo {version} both = int list -> (string * int) list do const []\n")?;
+        let line = format!(in rt.alloc();
+            "plain echo {version} both = int list -> (string * int) list do const []\n"
+        )?;
         text.push_str(line.as_str())?;
     }
     let schema = Schema::read(rt.alloc(), text.as_bytes())?;

@@ -1,5 +1,5 @@
 -- One entry more, and all of them.
-use Rattle.std.proofs.Common.{◌≡◌, ◌≤◌, sym, subst, take, length, rules, arith}
+use Rattle.std.proofs.Common.{◌≤◌, subst, length, rules, arith}
 use Rattle.std.proofs.lemmas.List.{take_all, take_more}
 use Rattle.rpc_schema.specs.Choice.{IsChoice}
 use Rattle.rpc_schema.proofs.menu.best.Goals as goal

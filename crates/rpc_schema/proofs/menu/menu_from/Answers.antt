@@ -1,5 +1,5 @@
 -- The value is a list of listings.
-use Rattle.std.proofs.Common.{◌≡◌, sym, subst, ◌∙◌}
+use Rattle.std.proofs.Common.{sym, subst, ◌∙◌}
 use Rattle.std.specs.List.{All}
 use Rattle.bp_value.proofs.Layers.{items_is}
 use Rattle.rpc_schema.specs.Choice.{IsListing}

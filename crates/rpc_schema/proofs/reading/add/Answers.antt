@@ -1,5 +1,5 @@
 -- The set says whether an earlier entry has the name and version.
-use Rattle.std.proofs.Common.{◌≡◌, refl, sym, ap, subst, cond, not, true, false, rules}
+use Rattle.std.proofs.Common.{◌≡◌, refl, sym, subst, cond, not, true, rules}
 use Rattle.std.specs.BTreeSet.{contains}
 use Rattle.std.specs.Ordering.{is_eq}
 use Rattle.rpc_schema.specs.declared.desc.Listing.{Listing}
@@ -9,11 +9,16 @@ use Rattle.rpc_schema.proofs.ReadingSteps.{marks_more, marked_earlier, marked_ne
 use Rattle.rpc_schema.proofs.reading.add.Goals as goal
 
 pub returns-then-not-branch-clause-refused : goal.returns-then-not-branch-clause-refused
-returns-then-not-branch-clause-refused c =
-    (refl, (c.in_ok-entry.entry, c.in_ok-entry.ensures.spelled,
+returns-then-not-branch-clause-refused c = (
+  refl,
+  (
+    c.in_ok-entry.entry,
+    c.in_ok-entry.ensures.spelled,
     marked_earlier c.args.seen.now c.args.entries.now.items c.in_ok-entry.entry c.in_ok-insert.field-0 c.requires
-    (subst (λ l. c.in_ok-insert.field-0 ≡ not (contains listing_cmp c.args.seen.now l)) c.in_ok-listing.ensures c.in_ok-insert.ensures.added)
-    (search rules)))
+        (subst (λ l. c.in_ok-insert.field-0 ≡ not (contains listing_cmp c.args.seen.now l)) c.in_ok-listing.ensures c.in_ok-insert.ensures.added)
+        (search rules),
+  ),
+)
 
 pub returns-clause-marks : goal.returns-clause-marks
 returns-clause-marks c =
@@ -23,8 +28,12 @@ returns-clause-marks c =
     c.in_ok-listing.ensures c.in_ok-insert.ensures.updates.0))
 
 pub returns-clause-added : goal.returns-clause-added
-returns-clause-added c =
-    (c.in_ok-entry.entry, c.in_ok-push.ensures.items, c.in_ok-entry.ensures.good, c.in_ok-entry.ensures.spelled,
-    marked_new c.args.seen.now c.args.entries.now.items c.in_ok-entry.entry c.in_ok-insert.field-0 c.requires
-    (subst (λ l. c.in_ok-insert.field-0 ≡ not (contains listing_cmp c.args.seen.now l)) c.in_ok-listing.ensures c.in_ok-insert.ensures.added)
-    (search rules))
+returns-clause-added c = (
+  c.in_ok-entry.entry,
+  c.in_ok-push.ensures.items,
+  c.in_ok-entry.ensures.good,
+  c.in_ok-entry.ensures.spelled,
+  marked_new c.args.seen.now c.args.entries.now.items c.in_ok-entry.entry c.in_ok-insert.field-0 c.requires
+      (subst (λ l. c.in_ok-insert.field-0 ≡ not (contains listing_cmp c.args.seen.now l)) c.in_ok-listing.ensures c.in_ok-insert.ensures.added)
+      (search rules),
+)

@@ -4,7 +4,7 @@ use Rattle.bp_value.specs.Form.{form_of}
 use Rattle.bp_value.specs.Faults.{IsGood}
 use Rattle.rpc_schema.specs.Entries.{IsEntry, Suits}
 use Rattle.rpc_schema.specs.LineParts.{Next, Known}
-use Rattle.rpc_schema.specs.LineAnswers.{Takes}
+use Rattle.rpc_schema.specs.LineAnswers.{TakesOne}
 use Rattle.rpc_schema.specs.SchemaLines.{AreShapes, ShapesRefused, IsTail, TailRefused, desc_of, entry_of}
 use Rattle.rpc_schema.proofs.GoodLines.{shapes_good, entry_good}
 use Rattle.rpc_schema.proofs.PartLaws.{second_stops}
@@ -22,15 +22,21 @@ returns-in_err-behaviour-clause-takes c =
     (λ shapes. TailRefused (desc_of c.args.head shapes)) (IsTail (desc_of c.args.head c.in_ok-shapes.shapes)) c.in_ok-shapes.shapes
     c.args.line.now c.take_shapes.new.line c.tail.new.line c.in_err-behaviour.field-0.0 c.from_residual-in_err-behaviour.result (search rules)
     c.in_ok-shapes.ensures
-    (subst (λ d. Takes (IsTail d) (TailRefused d) c.take_shapes.new.line c.tail.new.line (Err c.in_err-behaviour.field-0.0)) c.desc_of-desc.ensures
+    (subst (λ d. TakesOne (IsTail d) (TailRefused d) c.take_shapes.new.line c.tail.new.line (Err c.in_err-behaviour.field-0.0)) c.desc_of-desc.ensures
     c.in_err-behaviour.ensures.takes)
 
 pub returns-clause-takes : goal.returns-clause-takes
-returns-clause-takes c =
-    (c.in_ok-shapes.shapes, c.take_shapes.new.line, c.in_ok-shapes.ensures,
-    (c.in_ok-behaviour.behaviour, c.tail.new.line,
+returns-clause-takes c = (
+  c.in_ok-shapes.shapes,
+  c.take_shapes.new.line,
+  c.in_ok-shapes.ensures,
+  (
+    c.in_ok-behaviour.behaviour,
+    c.tail.new.line,
     subst (λ d. IsTail d c.in_ok-behaviour.behaviour c.take_shapes.new.line c.tail.new.line) c.desc_of-desc.ensures c.in_ok-behaviour.ensures.takes,
-    (ap (λ d. record { desc = d; side = c.args.head.side; behaviour = c.in_ok-behaviour.behaviour; line = c.args.number }) c.desc_of-desc.ensures, refl)))
+    (ap (λ d. record { desc = d; side = c.args.head.side; behaviour = c.in_ok-behaviour.behaviour; line = c.args.number }) c.desc_of-desc.ensures, refl),
+  ),
+)
 
 pub returns-clause-good : goal.returns-clause-good
 returns-clause-good c =
