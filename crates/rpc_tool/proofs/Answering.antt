@@ -17,7 +17,7 @@ use Rattle.rpc_tool.specs.declared.status.Status.TheVariants.{Done, Refused, Bad
 use Rattle.rpc_tool.specs.Commands.{IsNamed, IsDone, IsRefusal, IsReplay}
 use Rattle.rpc_tool.specs.declared.command.Command.TheVariants.{Show, Write, Frames, Replay}
 use Rattle.rpc_tool.specs.Limits.{most_input}
-use Rattle.rpc_tool.specs.Means.{code_of, IsAnswer, IsSaid, IsAnswered, WasGiven, IsReadThrough, IsReadWhole, IsReportOf, IsReportOfInput, MayRunOut, Means}
+use Rattle.rpc_tool.specs.Means.{code_of, IsAnswer, IsSaid, IsAnswered, WasGiven, IsReadThrough, IsReadWhole, IsReportOfInput, MayRunOut, Means}
 
 -- ---- answers
 

@@ -1,11 +1,11 @@
 -- A stream has one answer: it is read whole, and has one text; or it stops, for one reason and behind one list of lines.
-use Rattle.std.proofs.Common.{◌≡◌, refl, sym, ap, ◌∙◌, subst, inl, inr, ◌⊎◌, ℕ, suc, ◌+◌, ◌^◌, ◌<◌, ◌≤◌, min, List, [], ◌∷◌, ◌++◌, length, take, drop, append_assoc, lit<, arith}
+use Rattle.std.proofs.Common.{◌≡◌, refl, sym, ap, ◌∙◌, subst, inl, inr, ◌⊎◌, ℕ, suc, ◌+◌, ◌≤◌, min, List, [], ◌∷◌, ◌++◌, length, take, drop, append_assoc, lit<, arith}
 use Rattle.std.proofs.lemmas.List.{length-append, length-take, take-append-drop}
-use Rattle.readers.specs.Reader.{Each, FaultAt, IsByte, IsFaultAt, IsProperFront}
+use Rattle.readers.specs.Reader.{FaultAt, IsByte, IsFaultAt, IsProperFront}
 use Rattle.readers.proofs.Ends.{one_fault}
 use Rattle.readers.proofs.Limits.{cut_same}
 use Rattle.readers.proofs.Places.{prefix_free}
-use Rattle.readers.proofs.Readers.{front-more, snoc}
+use Rattle.readers.proofs.Readers.{front-more}
 use Rattle.bp_num.specs.declared.number.Why.{Why}
 use Rattle.bp_num.specs.declared.number.Why.TheVariants.{Length}
 use Rattle.bp_value.specs.Form.{Form}
@@ -29,7 +29,7 @@ use Rattle.rpc_msg.specs.declared.shared.CloseCause.{CloseCause}
 use Rattle.rpc_msg.specs.declared.shared.CloseCause.TheVariants as cause
 use Rattle.rpc_msg.proofs.Readable.{header_read, message_read}
 use Rattle.rpc_tool.specs.StreamLines.{header_line, told_lines}
-use Rattle.rpc_tool.specs.StreamReads.{longest, AreMessages, HasRead, HasBadBody, HasNoFrame, IsForeign, IsHeader, IsInFront, IsMessage, IsReadUpTo, IsWholeStream, NoHeader, NoMessage, StopsAfter}
+use Rattle.rpc_tool.specs.StreamReads.{longest, AreMessages, HasRead, HasBadBody, HasNoFrame, IsForeign, IsHeader, IsMessage, IsWholeStream, NoHeader, NoMessage, StopsAfter}
 use Rattle.rpc_tool.specs.declared.stream_reading.Stop.{Stop}
 use Rattle.rpc_tool.specs.declared.stream_reading.Stop.TheVariants as stop
 use Rattle.rpc_tool.proofs.OneMessage.{front_none, fault_none, one_value, spelled_free, spelled_or_faulty, header_is, message_is}

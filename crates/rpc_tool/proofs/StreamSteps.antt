@@ -1,5 +1,5 @@
 -- The frames of a stream, one after the other.
-use Rattle.std.proofs.Common.{◌≡◌, ◌≢◌, refl, sym, ap, ◌∙◌, subst, inl, inr, ℕ, suc, ◌+◌, ◌-◌, ◌^◌, ◌<◌, ◌≤◌, min, List, [], ◌∷◌, ◌++◌, length, take, drop, append_assoc, append-nil, Option, Some, None, Result, Ok, Err, flat_map, IsErrAnd, zero-add, arith}
+use Rattle.std.proofs.Common.{◌≡◌, ◌≢◌, refl, sym, ap, ◌∙◌, subst, inl, inr, ℕ, suc, ◌+◌, ◌-◌, ◌^◌, ◌<◌, ◌≤◌, List, [], ◌∷◌, ◌++◌, length, take, drop, append_assoc, append-nil, Some, None, Result, Ok, Err, flat_map, IsErrAnd, zero-add, arith}
 use Rattle.std.proofs.lemmas.Grind.{flat_map-append}
 use Rattle.std.proofs.lemmas.List.{length-append, length-drop, take_all, take-append-drop}
 use Rattle.readers.specs.Reader.{IsFaultAt, IsProperFront, Stands}
@@ -9,8 +9,7 @@ use Rattle.bp_num.specs.declared.number.Why.TheVariants.{Length}
 use Rattle.bp_value.specs.Form.{Form}
 use Rattle.rpc_frame.specs.Feeding.{FedGives, IsFrameFed}
 use Rattle.rpc_frame.specs.Frames.{frame, frames, IsFrame, FrameWhy}
-use Rattle.rpc_frame.specs.States.{FrameState, moved, stream_place}
-use Rattle.rpc_frame.specs.Streams.{AreWithin}
+use Rattle.rpc_frame.specs.States.{FrameState, stream_place}
 use Rattle.rpc_frame.specs.declared.error.FrameError.{FrameError}
 use Rattle.rpc_frame.specs.declared.error.FrameError.TheVariants as frame_error
 use Rattle.rpc_frame.proofs.HeadSteps.{length-little}
@@ -24,7 +23,7 @@ use Rattle.rpc_msg.specs.declared.message.Message.{Message}
 use Rattle.rpc_msg.specs.declared.shared.CloseCause.{CloseCause}
 use Rattle.rpc_msg.specs.declared.shared.CloseCause.TheVariants as cause
 use Rattle.rpc_tool.specs.StreamLines.{header_line, told_lines, message_line}
-use Rattle.rpc_tool.specs.StreamReads.{longest, stopped_by, AppendsLines, AreMessages, HasRead, HasBadBody, HasNoFrame, IsBefore, IsHeader, IsInFront, IsMessage, IsThis, IsNextFrame, NoHeader, NoMessage, StopsAfter, GivesNext}
+use Rattle.rpc_tool.specs.StreamReads.{longest, stopped_by, AppendsLines, AreMessages, HasRead, HasBadBody, HasNoFrame, IsBefore, IsHeader, IsInFront, IsMessage, IsThis, IsNextFrame, NoHeader, NoMessage, GivesNext}
 use Rattle.rpc_tool.specs.declared.stream_reading.Stop.{Stop}
 use Rattle.rpc_tool.specs.declared.stream_reading.Stop.TheVariants as stop
 use Rattle.rpc_tool.specs.declared.stream_reading.StreamError.{StreamError}

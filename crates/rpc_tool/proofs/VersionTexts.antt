@@ -14,7 +14,6 @@ use Rattle.bp_text.specs.Printing.{lead, piece_bytes}
 use Rattle.bp_text.proofs.Appending.{joined, mapped_at, rest_done, rest_next, rest_of}
 use Rattle.bp_text.proofs.PieceBytes.{list_bytes, IsTight}
 use Rattle.rpc_msg.specs.Forms.{header_form}
-use Rattle.rpc_msg.specs.Values.{header_value}
 use Rattle.rpc_msg.specs.declared.message.Header.{Header}
 use Rattle.rpc_tool.specs.StreamLines.{header_line}
 

@@ -5,7 +5,6 @@ use Rattle.rpc_world.specs.declared.schedule.Schedule.{Schedule}
 use Rattle.rpc_world.specs.Input.{IsInput}
 use Rattle.rpc_world.specs.Report.{line}
 use Rattle.rpc_tool.specs.Limits.{most_input}
-use Rattle.bp_text.specs.declared.error.TextError.TheVariants as text_error
 use Rattle.rpc_tool.specs.Commands.{IsNamed, IsDone, IsRefusal, IsReplay, MeetsWires}
 use Rattle.std.specs.Io.KnownBytes.{IsAtEnd}
 use Rattle.bp_base.specs.Whole.{Came}

@@ -1,4 +1,4 @@
-use Rattle.std.proofs.Common.{◌≡◌, ◌≢◌, [], Err, subst, rules}
+use Rattle.std.proofs.Common.{◌≢◌, [], Err, subst, rules}
 use Rattle.rpc_frame.specs.States.{FrameState}
 use Rattle.rpc_tool.specs.StreamReads.{IsHeader, IsNextFrame, NoHeader, GivesNext}
 use Rattle.rpc_tool.proofs.StreamSteps.{headless, reading_next, reading_start, reading_stopped}

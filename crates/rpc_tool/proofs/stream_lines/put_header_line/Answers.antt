@@ -1,4 +1,4 @@
-use Rattle.std.proofs.Common.{◌≡◌, ◌++◌, ◌<◌, ◌≤◌, codes, to_z, of_z, w64, rules, length, get_or, pos, refl, subst, sym, ap, ◌∙◌, arith}
+use Rattle.std.proofs.Common.{◌≡◌, ◌++◌, ◌<◌, ◌≤◌, codes, to_z, of_z, w64, rules, length, get_or, pos, subst, ap, arith}
 use Rattle.bp_text_grammar.specs.Printed.{decimal_text}
 use Rattle.bp_text.specs.Printing.{lead}
 use Rattle.rpc_tool.proofs.VersionTexts.{line_ends, line_goes_on, line_starts}

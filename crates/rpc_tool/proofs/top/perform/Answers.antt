@@ -1,9 +1,7 @@
-use Rattle.std.proofs.Common.{sym}
-use Rattle.std.specs.Prelude.{Ok}
 use Rattle.bp_base.specs.Told.{Gains}
-use Rattle.rpc_tool.specs.Means.{ReportsOver, IsSaid}
-use Rattle.rpc_tool.specs.declared.command.Command.TheVariants.{Show, Write, Frames, Replay}
-use Rattle.rpc_tool.proofs.Answering.{given_said, given_through}
+use Rattle.rpc_tool.specs.Means.{ReportsOver}
+use Rattle.rpc_tool.specs.declared.command.Command.TheVariants.{Show, Write, Frames}
+use Rattle.rpc_tool.proofs.Answering.{given_said}
 use Rattle.rpc_tool.proofs.top.perform.Goals as goal
 
 pub returns-in-Show-clause-said : goal.returns-in-Show-clause-said
