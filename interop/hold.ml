@@ -69,13 +69,23 @@ let hold_single t ~ordered desc bin v =
   | [] -> pass t each
   | l -> List.iter (fun text -> fail t "%s; value %s" text (shortened (Shape.value_text desc.Desc.shape v))) l
 
-let hold_batch t ~ordered (desc : 'a Desc.t) bin vs =
-  match faults t ~ordered (Desc.list desc) (Type_class.bin_list bin) (Shape.Many vs) with
-  | [] -> pass t (each * List.length vs)
-  | l ->
-    let before = t.failed in
-    List.iter (hold_single t ~ordered desc bin) vs;
-    if t.failed = before then List.iter (fun text -> fail t "%s; each alone is the same" text) l
+(* The first so many and the rest. *)
+let split l count = List.filteri (fun i _ -> i < count) l, List.filteri (fun i _ -> i >= count) l
+
+(* Values as one list, and where that differs its halves, until each value that differs is found or so many failures are. *)
+let rec hold_batch t ~ordered ~until (desc : 'a Desc.t) bin vs =
+  if t.failed < until
+  then (
+    match faults t ~ordered (Desc.list desc) (Type_class.bin_list bin) (Shape.Many vs) with
+    | [] -> pass t (each * List.length vs)
+    | l ->
+      let before = t.failed in
+      (match vs with
+       | [ v ] -> hold_single t ~ordered desc bin v
+       | _ ->
+         let first, rest = split vs (List.length vs / 2) in
+         List.iter (hold_batch t ~ordered ~until desc bin) [ first; rest ]);
+      if t.failed = before then List.iter (fun text -> fail t "%s; in parts it is the same" text) l)
 
 (* The values in lists of which each has some megabyte of text at most. *)
 let batches shape vs =
@@ -121,7 +131,7 @@ let hold_type t ~values ~damaged (Held.Held h) =
   let vs = Gen.values t.rng desc.shape ~count:values in
   hold_single t ~ordered:h.ordered desc h.bin (List.hd vs);
   hold_single t ~ordered:h.ordered desc h.bin (List.hd (List.rev vs));
-  List.iter (hold_batch t ~ordered:h.ordered desc h.bin) (batches desc.shape vs);
+  List.iter (hold_batch t ~ordered:h.ordered ~until:(t.failed + 10) desc h.bin) (batches desc.shape vs);
   List.iter (hold_damaged t ~ordered:h.ordered desc h.bin) (Damage.some t.rng desc h.bin vs ~count:damaged);
   Printf.printf "%6d  %s: %s\n%!" (t.passed - before) h.name (shortened (Shape.text desc.shape))
 
