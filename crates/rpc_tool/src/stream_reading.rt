@@ -52,7 +52,7 @@ impl From<FrameError> for StreamError {
     }
 }
 
-/// GivesNext the header from the front of the rest of a stream.
+/// Takes the header from the front of the rest of a stream.
 pub fn next_header(
     alloc: Global,
     reader: &mut FrameReader,
@@ -73,7 +73,7 @@ pub fn next_header(
     }
 }
 
-/// GivesNext the next message from the front of the rest of a stream.
+/// Takes the next message from the front of the rest of a stream.
 pub fn next_message(
     alloc: Global,
     reader: &mut FrameReader,
@@ -94,7 +94,7 @@ pub fn next_message(
     }
 }
 
-// GivesNext the body of the frame in front.
+// Takes the body of the frame in front.
 fn next_body(reader: &mut FrameReader, rest: &mut &[u8]) -> Result<Blob, StreamError>
     requires { IsBefore rest.old.now reader.old }
     ensures { GivesNext IsThis HasNoFrame reader.old rest.old.now result reader.new rest.new.now }
