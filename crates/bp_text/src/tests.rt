@@ -53,137 +53,48 @@ fn check(rt: &impl Abort, alloc: Global, rows: &[(&[u8], &str)]) -> Result<(), F
 }
 
 #[test]
-fn blanks_may_stand_everywhere_and_a_tab_nowhere(rt: HostRuntime) -> Result<(), Fail> {
+fn words_numbers_and_marks(rt: HostRuntime) -> Result<(), Fail> {
     check(
         &rt,
         rt.alloc(),
         &[
-            (b"", ""),
             (b"  ", ""),
             (b" int  list ", r#" word "int":10 word "list":5"#),
             (b"int\tlist", r#" word "int":8 wrong:5"#),
-            (b"int\n", r#" word "int":4 wrong:1"#),
-        ],
-    )
-}
-
-#[test]
-fn the_longest_run_of_name_bytes_is_one_word(rt: HostRuntime) -> Result<(), Fail> {
-    check(
-        &rt,
-        rt.alloc(),
-        &[
             (b"a_1' _x Z", r#" word "a_1'":9 word "_x":4 word "Z":1"#),
-            (b"some'x'", r#" word "some'x'":7"#),
             (b"5x", r#" 5:2 word "x":1"#),
             (b"x-5", r#" word "x":3 -5:2"#),
-        ],
-    )?;
-    let alloc = rt.alloc();
-    let name = "aaaaaaaaaaaaaaaaaaaaaaaaaaaaaaaaaaaaaaaaaaaaaaaaaaaaaaaaaaaaaaaaa";
-    let want = format!(in alloc; " word \"{name}\":65")?;
-    check(&rt, alloc, &[(name.as_bytes(), want.as_str())])
-}
-
-#[test]
-fn a_number_has_one_form_and_beyond_64_bits_no_value(rt: HostRuntime) -> Result<(), Fail> {
-    check(
-        &rt,
-        rt.alloc(),
-        &[
-            (b"0 7 -12", " 0:7 7:5 -12:3"),
-            (b"9223372036854775807", " 9223372036854775807:19"),
             (b"-9223372036854775808", " -9223372036854775808:20"),
             (b"9223372036854775808", " big:19"),
-            (b"-9223372036854775809", " big:20"),
-            (b"100000000000000000000000000 1", " big:29 1:1"),
             (b"007", " wrong:3"),
-            (b"00", " wrong:2"),
             (b"-0", " wrong:2"),
-            (b"-05", " wrong:3"),
             (b"- 1", " wrong:3"),
-            (b"--1", " wrong:3"),
-            (b"7 -", " 7:3 wrong:1"),
-        ],
-    )
-}
-
-#[test]
-fn a_text_is_read_with_its_escapes(rt: HostRuntime) -> Result<(), Fail> {
-    check(
-        &rt,
-        rt.alloc(),
-        &[
-            (br#""""#, r#" text "":2"#),
-            (br#""a ~"b"#, r#" text "a ~":6 word "b":1"#),
-            (br#""\"\'\\'""#, r#" text "\"'\\'":9"#),
-            (br#""\x41\x0a\xFe""#, " text 0x410afe:14"),
-            (br#""\q" 1"#, " wrong:6"),
-            (br#""\x4g""#, " wrong:6"),
-            (b"\"\x1F\"", " wrong:3"),
-            (b"\"\x7F\"", " wrong:3"),
-            (b"\"\x80\"", " wrong:3"),
-        ],
-    )
-}
-
-#[test]
-fn a_char_is_one_byte(rt: HostRuntime) -> Result<(), Fail> {
-    check(
-        &rt,
-        rt.alloc(),
-        &[
-            (b"'a' 'b'", " char 97:7 char 98:3"),
-            (br#"'"'"#, " char 34:3"),
-            (br"'\''", " char 39:4"),
-            (br"'\\'", " char 92:4"),
-            (br"'\x00'", " char 0:6"),
-            (b"''", " wrong:2"),
-            (b"'ab'", " wrong:4"),
-            (br"'\q'", " wrong:4"),
-            (b"'\x80'", " wrong:3"),
-        ],
-    )
-}
-
-#[test]
-fn what_the_end_leaves_open_is_told_from_what_is_wrong(rt: HostRuntime) -> Result<(), Fail> {
-    check(
-        &rt,
-        rt.alloc(),
-        &[
-            (br#"x "abc"#, r#" word "x":6 text "":4 open"#),
-            (br#"""#, r#" text "":1 open"#),
-            (br#""\"#, r#" text "":2 open"#),
-            (br#""\""#, r#" text "":3 open"#),
-            (br#""\x4"#, r#" text "":4 open"#),
-            (br#""\q"#, " wrong:3"),
-            (br#""\xg"#, " wrong:4"),
-            (b"'", " char 0:1 open"),
-            (b"'a", " char 0:2 open"),
-            (br"'\x4", " char 0:4 open"),
-            (b"'ab", " wrong:3"),
-        ],
-    )
-}
-
-#[test]
-fn marks_are_single_bytes_and_other_bytes_are_wrong(rt: HostRuntime) -> Result<(), Fail> {
-    check(
-        &rt,
-        rt.alloc(),
-        &[
-            (
-                b"(){}[]",
-                " mark 40:6 mark 41:5 mark 123:4 mark 125:3 mark 91:2 mark 93:1",
-            ),
             (
                 b";|,:=*`!",
                 " mark 59:8 mark 124:7 mark 44:6 mark 58:5 mark 61:4 mark 42:3 mark 96:2 mark 33:1",
             ),
             (b"a.b", r#" word "a":3 wrong:2"#),
-            (b"->", " wrong:2"),
-            (b"\xC3\xA9", " wrong:2"),
+        ],
+    )
+}
+
+#[test]
+fn texts_and_chars(rt: HostRuntime) -> Result<(), Fail> {
+    check(
+        &rt,
+        rt.alloc(),
+        &[
+            (br#""\"\'\\'""#, r#" text "\"'\\'":9"#),
+            (br#""\x41\x0a\xFe""#, " text 0x410afe:14"),
+            (br#""\q" 1"#, " wrong:6"),
+            (b"\"\x7F\"", " wrong:3"),
+            (b"'a' 'b'", " char 97:7 char 98:3"),
+            (br"'\''", " char 39:4"),
+            (b"''", " wrong:2"),
+            (br#"x "abc"#, r#" word "x":6 text "":4 open"#),
+            (br#""\q"#, " wrong:3"),
+            (b"'a", " char 0:2 open"),
+            (b"'ab", " wrong:3"),
         ],
     )
 }

@@ -1,5 +1,3 @@
-ghost use Rattle.std.specs.Prelude.{◌<◌};
-
 use super::*;
 use std::alloc::Global;
 use std::test::Fail;
@@ -8,6 +6,11 @@ fn blob(alloc: Global, text: &str) -> Result<Blob, OutOfMemory> {
     Blob::from_slice(alloc, text.as_bytes())
 }
 
+fn listed<T: Drop, const N: usize>(alloc: Global, items: [T; N]) -> Result<Listed<T>, OutOfMemory> {
+    Ok(Listed::from_vec(Vec::from_array(alloc, items)?))
+}
+
+/// A variant of cases without arguments.
 fn sum_of(alloc: Global, names: &[&str]) -> Result<Shape, OutOfMemory> {
     let mut cases = Vec::with_capacity(alloc, names.len())?;
     for name in names {
@@ -18,6 +21,7 @@ fn sum_of(alloc: Global, names: &[&str]) -> Result<Shape, OutOfMemory> {
     Ok(Shape::Sum(Listed::from_vec(cases)))
 }
 
+/// A polymorphic variant of cases without arguments.
 fn poly_of(alloc: Global, names: &[&str]) -> Result<Shape, OutOfMemory> {
     let mut cases = Vec::with_capacity(alloc, names.len())?;
     for name in names {
@@ -27,41 +31,14 @@ fn poly_of(alloc: Global, names: &[&str]) -> Result<Shape, OutOfMemory> {
     Ok(Shape::Poly(Listed::from_vec(cases)))
 }
 
-/// A sum of so many cases without arguments, named `aa`, `ab` and so on.
-fn sum_with(alloc: Global, count: u16) -> Result<Shape, OutOfMemory>
-    requires { count < 400 }
-{
-    let mut cases = Vec::new(alloc);
-    for place in 0..count {
-        let letters = [b'a' + (place / 16) as u8, b'a' + (place % 16) as u8];
-        let name = Blob::from_slice(alloc, &letters)?;
-        let args = Listed::from_vec(Vec::new(alloc));
-        cases.push(Case { name, args })?;
-    }
-    Ok(Shape::Sum(Listed::from_vec(cases)))
+fn tuple_of<const N: usize>(alloc: Global, parts: [Shape; N]) -> Result<Shape, OutOfMemory> {
+    Ok(Shape::Tuple(listed(alloc, parts)?))
 }
 
-/// Options round a unit, so many nodes deep.
-fn options(alloc: Global, depth: u32) -> Result<Shape, OutOfMemory> {
-    let mut shape = Shape::Unit;
-    for _ in 1..depth {
-        shape = Shape::Opt(Boxed::new(alloc, shape)?);
-    }
-    Ok(shape)
-}
-
-/// Lists round an empty list, so many deep.
-fn lists(alloc: Global, depth: u32) -> Result<Sexp, OutOfMemory> {
-    let mut sexp = Sexp::List(Listed::from_vec(Vec::new(alloc)));
-    for _ in 1..depth {
-        sexp = Sexp::List(Listed::from_vec(vec![in alloc; sexp]?));
-    }
-    Ok(sexp)
-}
-
-fn fits_checked(shape: &Shape, value: &Value, max_len: u64) -> Result<bool, ShapeFault> {
-    shape.check()?;
-    Ok(fits(shape, value, max_len))
+/// What `check` answers. The shape is made by the caller, so that none is left to be dropped there.
+fn checked(shape: Result<Shape, OutOfMemory>) -> Result<Result<(), ShapeFault>, OutOfMemory> {
+    let shape = shape?;
+    Ok(shape.check())
 }
 
 #[test]
@@ -86,24 +63,17 @@ fn check_answers_the_first_fault(rt: HostRuntime) -> Result<(), Fail> {
         first: 0,
         second: 2,
     };
-    assert_eq!(rt; sum_of(alloc, &["A", "B", "A"])?.check(), Err(same));
+    assert_eq!(rt; checked(sum_of(alloc, &["A", "B", "A"]))?, Err(same));
     let clash = ShapeFault::TagClash {
         first: 0,
         second: 1,
     };
     assert_eq!(rt;
-        poly_of(alloc, &["azdwbie", "c7diagq"])?.check(),
+        checked(poly_of(alloc, &["azdwbie", "c7diagq"]))?,
         Err(clash)
     );
-    let pair = Shape::Tuple(Listed::from_vec(vec![in alloc; Shape::Int]?));
-    assert_eq!(rt; pair.check(), Err(ShapeFault::ShortTuple { parts: 1 }));
-    assert_eq!(rt;
-        sum_of(alloc, &["A", "_b'2", "2b"])?.check(),
-        Err(ShapeFault::BadName { place: 2 })
-    );
-    assert_eq!(rt; sum_of(alloc, &[])?.check(), Err(ShapeFault::EmptySum));
-    let empty = Shape::Fields(Listed::from_vec(Vec::new(alloc)));
-    assert_eq!(rt; empty.check(), Err(ShapeFault::EmptyFields));
+    let short = ShapeFault::ShortTuple { parts: 1 };
+    assert_eq!(rt; checked(tuple_of(alloc, [Shape::Int]))?, Err(short));
     Ok(())
 }
 
@@ -153,192 +123,165 @@ fn faults_say_what_and_where(rt: HostRuntime) -> Result<(), Fail> {
     Ok(())
 }
 
-#[test]
-fn check_counts_depth_and_members(rt: HostRuntime) -> Result<(), Fail> {
-    let alloc = rt.alloc();
-    assert_eq!(rt; options(alloc, 64)?.check(), Ok(()));
-    assert_eq!(rt;
-        options(alloc, 65)?.check(),
-        Err(ShapeFault::TooDeep { depth: 65 })
-    );
-    assert_eq!(rt; sum_with(alloc, 256)?.check(), Ok(()));
-    assert_eq!(rt;
-        sum_with(alloc, 257)?.check(),
-        Err(ShapeFault::TooMany { count: 257 })
-    );
-    Ok(())
+fn fits_checked(shape: &Shape, value: &Value, max_len: u64) -> Result<bool, ShapeFault> {
+    shape.check()?;
+    Ok(fits(shape, value, max_len))
 }
 
 #[test]
-fn fits_has_the_range_and_the_depth(rt: HostRuntime) -> Result<(), Fail> {
-    let alloc = rt.alloc();
-    assert_eq!(rt;
-        fits_checked(&Shape::Int32, &Value::Num(2147483648), 8),
-        Ok(false)
-    );
-    assert_eq!(rt;
-        fits_checked(&Shape::Int32, &Value::Num(2147483647), 8),
-        Ok(true)
-    );
-    assert_eq!(rt;
-        fits_checked(&Shape::Sexp, &Value::Sexp(lists(alloc, 128)?), 1),
-        Ok(true)
-    );
-    assert_eq!(rt;
-        fits_checked(&Shape::Sexp, &Value::Sexp(lists(alloc, 129)?), 1),
-        Ok(false)
-    );
-    assert_eq!(rt;
-        fits_checked(&Shape::Text, &Value::Text(blob(alloc, "abc")?), 2),
-        Ok(false)
-    );
-    Ok(())
+fn an_int32_has_32_bits(rt: HostRuntime) {
+    for (number, is_one) in [(2147483647, true), (2147483648, false)] {
+        assert_eq!(rt;
+            fits_checked(&Shape::Int32, &Value::Num(number), 8),
+            Ok(is_one)
+        );
+    }
 }
 
-fn tuple_of(alloc: Global, first: Shape, second: Shape) -> Result<Shape, OutOfMemory> {
-    let mut parts = Vec::new(alloc);
-    parts.push(first)?;
-    parts.push(second)?;
-    Ok(Shape::Tuple(Listed::from_vec(parts)))
-}
-
-fn sum_of_pair(alloc: Global) -> Result<Shape, OutOfMemory> {
+fn variant(alloc: Global) -> Result<Shape, OutOfMemory> {
+    let args = listed(alloc, [Shape::Int32, Shape::Int64])?;
     let name = blob(alloc, "C")?;
-    let args = Listed::from_vec(vec![in alloc; Shape::Int32, Shape::Int64]?);
-    let cases = vec![in alloc; Case { name, args }]?;
-    Ok(Shape::Sum(Listed::from_vec(cases)))
+    Ok(Shape::Sum(listed(alloc, [Case { name, args }])?))
 }
 
-fn poly_of_arg(alloc: Global, shape: Shape) -> Result<Shape, OutOfMemory> {
-    let arg = Some(Boxed::new(alloc, shape)?);
+fn polymorphic(alloc: Global) -> Result<Shape, OutOfMemory> {
+    let arg = Some(Boxed::new(alloc, Shape::Sexp)?);
     let name = blob(alloc, "Ok")?;
-    let cases = vec![in alloc; PolyCase { name, arg }]?;
-    Ok(Shape::Poly(Listed::from_vec(cases)))
+    Ok(Shape::Poly(listed(alloc, [PolyCase { name, arg }])?))
 }
 
-fn field(alloc: Global, name: &str, shape: Shape) -> Result<Field, OutOfMemory> {
-    let name = blob(alloc, name)?;
-    Ok(Field { name, shape })
+fn record(alloc: Global) -> Result<Shape, OutOfMemory> {
+    let shape = Shape::Opt(Boxed::new(alloc, Shape::Int)?);
+    let name = blob(alloc, "opt")?;
+    Ok(Shape::Fields(listed(alloc, [Field { name, shape }])?))
 }
 
-/// A record whose fields are of each kind of shape that has children.
-fn every_shape(alloc: Global) -> Result<Shape, OutOfMemory> {
-    let mut fields = Vec::new(alloc);
-    fields.push(field(alloc, "pair", tuple_of(alloc, Shape::Bool, Shape::Char)?)?)?;
-    let opt = Shape::Opt(Boxed::new(alloc, Shape::Int)?);
-    fields.push(field(alloc, "opt", opt)?)?;
-    let list = Shape::List(Boxed::new(alloc, Shape::Text)?);
-    fields.push(field(alloc, "list", list)?)?;
-    fields.push(field(alloc, "sum", sum_of_pair(alloc)?)?)?;
-    fields.push(field(alloc, "poly", poly_of_arg(alloc, Shape::Sexp)?)?)?;
-    Ok(Shape::Fields(Listed::from_vec(fields)))
+/// Whether a copy is made, and is the same.
+fn is_copied(alloc: Global, shape: Result<Shape, OutOfMemory>) -> Result<bool, OutOfMemory> {
+    let shape = shape?;
+    let copy = shape.copy(alloc)?;
+    Ok(copy.is_same(&shape))
 }
 
-fn values_of(alloc: Global, first: Value, second: Value) -> Result<Listed<Value>, OutOfMemory> {
-    let mut values = Vec::new(alloc);
-    values.push(first)?;
-    values.push(second)?;
-    Ok(Listed::from_vec(values))
+fn shapes_are_copied(alloc: Global) -> Result<bool, OutOfMemory> {
+    Ok(
+        is_copied(alloc, tuple_of(alloc, [Shape::Bool, Shape::Char]))?
+            && is_copied(alloc, variant(alloc))?
+            && is_copied(alloc, polymorphic(alloc))?
+            && is_copied(alloc, record(alloc))?,
+    )
 }
 
-/// A value of that record.
-fn every_value(alloc: Global) -> Result<Value, OutOfMemory> {
-    let mut parts = Vec::new(alloc);
-    parts.push(Value::Parts(values_of(alloc, Value::Bool(true), Value::Char(65))?))?;
-    parts.push(Value::Present(Boxed::new(alloc, Value::Num(7))?))?;
+fn items_of_text(alloc: Global) -> Result<Value, OutOfMemory> {
     let text = Value::Text(blob(alloc, "text")?);
-    parts.push(Value::Items(Listed::from_vec(vec![in alloc; text]?)))?;
-    let args = values_of(alloc, Value::Num(-1), Value::Num(5))?;
-    parts.push(Value::Case { place: 0, args })?;
-    let arg = Value::Sexp(lists(alloc, 2)?);
-    let args = Listed::from_vec(vec![in alloc; arg]?);
-    parts.push(Value::Case { place: 0, args })?;
-    Ok(Value::Parts(Listed::from_vec(parts)))
+    Ok(Value::Items(listed(alloc, [text])?))
+}
+
+fn parts_of_option(alloc: Global) -> Result<Value, OutOfMemory> {
+    let present = Value::Present(Boxed::new(alloc, Value::Num(7))?);
+    Ok(Value::Parts(listed(alloc, [present, Value::Absent])?))
+}
+
+/// `("say \"hi\" ~" ())`
+fn sexp(alloc: Global) -> Result<Sexp, OutOfMemory> {
+    let atom = Sexp::Atom(blob(alloc, "say \"hi\" ~")?);
+    let empty = Sexp::List(Listed::from_vec(Vec::new(alloc)));
+    Ok(Sexp::List(listed(alloc, [atom, empty])?))
+}
+
+fn case_of_sexp(alloc: Global) -> Result<Value, OutOfMemory> {
+    let sexp = Value::Sexp(sexp(alloc)?);
+    let args = listed(alloc, [sexp])?;
+    Ok(Value::Case { place: 0, args })
+}
+
+/// Whether a copy is made, and is the same.
+fn is_repeated(alloc: Global, value: Result<Value, OutOfMemory>) -> Result<bool, OutOfMemory> {
+    let value = value?;
+    let copy = value.copy(alloc)?;
+    Ok(copy.is_same(&value))
+}
+
+fn values_are_copied(alloc: Global) -> Result<bool, OutOfMemory> {
+    Ok(
+        is_repeated(alloc, items_of_text(alloc))?
+            && is_repeated(alloc, parts_of_option(alloc))?
+            && is_repeated(alloc, case_of_sexp(alloc))?,
+    )
+}
+
+fn texts_are_copied(alloc: Global) -> Result<bool, OutOfMemory> {
+    let text = blob(alloc, "text")?;
+    let copy = text.copy(alloc)?;
+    Ok(copy.is_same(&text))
+}
+
+fn sexps_are_copied(alloc: Global) -> Result<bool, OutOfMemory> {
+    let sexp = sexp(alloc)?;
+    let copy = sexp.copy(alloc)?;
+    Ok(copy.is_same(&sexp))
 }
 
 #[test]
 fn copies_are_made_and_alike(rt: HostRuntime) -> Result<(), Fail> {
     let alloc = rt.alloc();
-    let text = blob(alloc, "text")?;
-    assert_eq!(rt; text.copy(alloc)?.as_slice(), b"text".as_slice());
-    let shape = every_shape(alloc)?;
-    assert!(rt; shape.copy(alloc)?.is_same(&shape));
-    let value = every_value(alloc)?;
-    assert!(rt; value.copy(alloc)?.is_same(&value));
-    assert_eq!(rt; fits_checked(&shape, &value, 8), Ok(true));
-    assert!(rt; Value::Absent.copy(alloc)?.is_same(&Value::Absent));
-    let sexp = lists(alloc, 3)?;
-    assert!(rt; sexp.copy(alloc)?.is_same(&sexp));
+    assert!(rt; texts_are_copied(alloc)?);
+    assert!(rt; sexps_are_copied(alloc)?);
+    assert!(rt; shapes_are_copied(alloc)?);
+    assert!(rt; values_are_copied(alloc)?);
     Ok(())
+}
+
+fn blob_gives_back(alloc: Global) -> Result<bool, OutOfMemory> {
+    let text = blob(alloc, "ab")?;
+    let text = Blob::from_vec(text.into_vec());
+    Ok(text.len() == 2 && !text.is_empty() && text.as_slice() == b"ab".as_slice())
+}
+
+fn list_gives_back(alloc: Global) -> Result<bool, OutOfMemory> {
+    let list = listed(alloc, [3u8, 4, 5])?;
+    let list = Listed::from_vec(list.into_vec());
+    Ok(list.len() == 3 && !list.is_empty() && list.as_slice() == [3, 4, 5].as_slice())
+}
+
+fn box_gives_back(alloc: Global) -> Result<bool, OutOfMemory> {
+    let boxed = Boxed::new(alloc, 7u8)?;
+    Ok(*boxed.get() == 7 && boxed.into_inner() == 7)
 }
 
 #[test]
 fn owners_give_back_what_they_took(rt: HostRuntime) -> Result<(), Fail> {
     let alloc = rt.alloc();
-    let text = blob(alloc, "ab")?;
-    assert_eq!(rt; (text.len(), text.as_slice()), (2, b"ab".as_slice()));
-    let text = Blob::from_vec(text.into_vec());
-    assert_eq!(rt;
-        (text.is_empty(), text.as_slice()),
-        (false, b"ab".as_slice())
-    );
-    assert!(rt; blob(alloc, "")?.is_empty());
-    let listed = Listed::from_vec(vec![in alloc; 3u8, 4, 5]?);
-    assert_eq!(rt;
-        (listed.len(), listed.as_slice()),
-        (3, [3, 4, 5].as_slice())
-    );
-    assert!(rt; !listed.is_empty());
-    assert_eq!(rt; listed.into_vec().len(), 3);
-    let boxed = Boxed::new(alloc, 7u8)?;
-    assert_eq!(rt; *boxed.get(), 7);
-    assert_eq!(rt; boxed.into_inner(), 7);
+    assert!(rt; blob_gives_back(alloc)?);
+    assert!(rt; list_gives_back(alloc)?);
+    assert!(rt; box_gives_back(alloc)?);
     Ok(())
+}
+
+fn shown(alloc: Global, bytes: &[u8]) -> Result<String, Fail> {
+    let text = Blob::from_slice(alloc, bytes)?;
+    Ok(format!(in alloc; "{text:?}")?)
+}
+
+fn value_shown(alloc: Global) -> Result<String, Fail> {
+    let value = case_of_sexp(alloc)?;
+    Ok(format!(in alloc; "{value:?}")?)
 }
 
 #[test]
 fn debug_shows_texts_as_texts(rt: HostRuntime) -> Result<(), Fail> {
     let alloc = rt.alloc();
-    let text = blob(alloc, "say \"hi\" ~")?;
+    let rows: [(&[u8], &str); 3] = [
+        (b"say \"hi\" ~", "\"say \\\"hi\\\" ~\""),
+        (b"", "\"\""),
+        (b"a\x00\x7f\xfe", "0x61007ffe"),
+    ];
+    for (bytes, want) in rows {
+        assert_eq!(rt; shown(alloc, bytes)?.as_str(), want);
+    }
     assert_eq!(rt;
-        format!(in alloc; "{text:?}")?.as_str(),
-        "\"say \\\"hi\\\" ~\""
+        value_shown(alloc)?.as_str(),
+        "Case { place: 0, args: [Sexp(List([Atom(\"say \\\"hi\\\" ~\"), List([])]))] }"
     );
-    assert_eq!(rt;
-        format!(in alloc; "{:?}", blob(alloc, "")?)?.as_str(),
-        "\"\""
-    );
-    let bytes = Blob::from_slice(alloc, b"a\x00\x7f\xfe")?;
-    assert_eq!(rt; format!(in alloc; "{bytes:?}")?.as_str(), "0x61007ffe");
-    let sexp = Sexp::List(Listed::from_vec(vec![in alloc; Sexp::Atom(text), lists(alloc, 1)?]?));
-    let value = Value::Present(Boxed::new(alloc, Value::Sexp(sexp))?);
-    assert_eq!(rt;
-        format!(in alloc; "{value:?}")?.as_str(),
-        "Present(Sexp(List([Atom(\"say \\\"hi\\\" ~\"), List([])])))"
-    );
-    Ok(())
-}
-
-#[test]
-fn equals_are_the_same(rt: HostRuntime) -> Result<(), Fail> {
-    let alloc = rt.alloc();
-    assert!(rt; blob(alloc, "ab")?.is_same(&blob(alloc, "ab")?));
-    assert!(rt; !blob(alloc, "ab")?.is_same(&blob(alloc, "abc")?));
-    let shape = sum_of(alloc, &["A", "B"])?;
-    assert!(rt; shape.is_same(&sum_of(alloc, &["A", "B"])?));
-    assert!(rt; !shape.is_same(&sum_of(alloc, &["A", "C"])?));
-    assert!(rt; !shape.is_same(&poly_of(alloc, &["A", "B"])?));
-    assert!(rt; lists(alloc, 3)?.is_same(&lists(alloc, 3)?));
-    assert!(rt; !lists(alloc, 3)?.is_same(&lists(alloc, 2)?));
-    let none = Value::Case {
-        place: 1,
-        args: Listed::from_vec(Vec::new(alloc)),
-    };
-    let one = Value::Case {
-        place: 1,
-        args: Listed::from_vec(vec![in alloc; Value::Num(5)]?),
-    };
-    assert!(rt; one.is_same(&one.copy(alloc)?));
-    assert!(rt; !none.is_same(&one));
     Ok(())
 }

@@ -24,26 +24,7 @@ fn a_shape_ends_before_what_goes_on_none(rt: HostRuntime) -> Result<(), Fail> {
         &[
             (b"int list -> x", 0, "List(Int) 8"),
             (b"a:  int  !", 2, "Int 7"),
-            (b"int int", 0, "Int 3"),
-            (b"bool  ", 0, "Bool 4"),
-        ],
-    )
-}
-
-#[test]
-fn a_place_is_one_of_the_whole_text(rt: HostRuntime) -> Result<(), Fail> {
-    check(
-        &rt,
-        rt.alloc(),
-        &[
             (b"x (int", 1, "BadText { at: 6 }"),
-            (b"x int * ) y", 1, "BadText { at: 8 }"),
-            (b"x float y", 1, "Float { at: 2 }"),
-            (
-                b"x {a : int; a : int} y",
-                1,
-                "NotGood(SameName { first: 0, second: 1 })",
-            ),
         ],
     )
 }

@@ -1,5 +1,4 @@
 use super::read_shape;
-use bp_value::OutOfMemory;
 use std::alloc::Global;
 use std::process::Abort;
 use std::test::Fail;
@@ -14,15 +13,6 @@ fn check(rt: &impl Abort, alloc: Global, rows: &[(&[u8], &str)]) -> Result<(), F
         assert_eq!(rt; answer.as_str(), *want);
     }
     Ok(())
-}
-
-/// The shape of `int` and so many words `list`.
-fn lists(alloc: Global, count: usize) -> Result<Vec<u8>, OutOfMemory> {
-    let mut text = Vec::from_slice(alloc, b"int")?;
-    for _ in 0..count {
-        text.extend_from_slice(b" list")?;
-    }
-    Ok(text)
 }
 
 #[test]
@@ -48,55 +38,11 @@ fn a_text_has_one_shape(rt: HostRuntime) -> Result<(), Fail> {
                 b"[`a of int32]",
                 r#"Poly([PolyCase { name: "a", arg: Some(Int32) }])"#,
             ),
-        ],
-    )
-}
-
-#[test]
-fn the_first_token_at_fault_is_refused(rt: HostRuntime) -> Result<(), Fail> {
-    check(
-        &rt,
-        rt.alloc(),
-        &[
-            (b"", "BadText { at: 0 }"),
             (b"(int", "BadText { at: 4 }"),
-            (b"(int  ", "BadText { at: 6 }"),
-            (b"int int", "BadText { at: 4 }"),
-            (b"[]", "BadText { at: 1 }"),
-            (b"[A *", "BadText { at: 3 }"),
-            (b"int \"", "BadText { at: 4 }"),
-            (b"float", "Float { at: 0 }"),
             (b"int * float list", "Float { at: 6 }"),
-            (b"int float", "BadText { at: 4 }"),
-        ],
-    )
-}
-
-#[test]
-fn at_most_64_brackets_are_open(rt: HostRuntime) -> Result<(), Fail> {
-    let brackets = [b'('; 65];
-    check(&rt, rt.alloc(), &[(&brackets[..], "BadText { at: 64 }")])
-}
-
-#[test]
-fn at_most_64_words_follow_a_base(rt: HostRuntime) -> Result<(), Fail> {
-    let alloc = rt.alloc();
-    let text = lists(alloc, 65)?;
-    check(&rt, alloc, &[(text.as_slice(), "BadText { at: 324 }")])
-}
-
-#[test]
-fn a_shape_that_is_not_good_is_refused(rt: HostRuntime) -> Result<(), Fail> {
-    let alloc = rt.alloc();
-    let deep = lists(alloc, 64)?;
-    check(
-        &rt,
-        alloc,
-        &[
-            (deep.as_slice(), "NotGood(TooDeep { depth: 65 })"),
             (
-                b"{a : int; a : bool}",
-                "NotGood(SameName { first: 0, second: 1 })",
+                b"[`azdwbie | `c7diagq]",
+                "NotGood(TagClash { first: 0, second: 1 })",
             ),
         ],
     )
