@@ -115,11 +115,12 @@ fn side_named(word: &[u8]) -> Option<Side>
 fn version(line: &mut Line) -> Result<i64, Stop>
     ensures { TakesOne IsVersionPart (Lacks IsVersionPart) line.old line.new result }
 {
-    let version = version_named(line.word());
+    let version = read_version(line.word());
     line.take_word(version)
 }
 
-fn version_named(word: &[u8]) -> Option<i64>
+/// The version that a word spells: a decimal below 2^62 without sign and without zeros in front.
+pub fn read_version(word: &[u8]) -> Option<i64>
     ensures { MatchOption result ((version : ℤ) → SpellsVersion version word.now → ⊥)
         (λ version. SpellsVersion version word.now) }
 {

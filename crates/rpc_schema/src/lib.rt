@@ -19,5 +19,6 @@ mod tests;
 
 pub use desc::{Behaviour, Entry, Kind, Listing, Menu, RpcDesc, Side};
 pub use error::SchemaError;
+pub use heads::read_version;
 pub use menu::{best, menu_desc, menu_from};
 pub use schema::Schema;

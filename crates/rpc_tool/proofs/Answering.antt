@@ -15,7 +15,7 @@ use Rattle.rpc_tool.specs.Answers.{Answers}
 use Rattle.rpc_tool.specs.declared.status.Status.{Status}
 use Rattle.rpc_tool.specs.declared.status.Status.TheVariants.{Done, Refused, BadShape, Usage, ReadFault, WriteFault, WireFault, OutOfMemory, TooLong}
 use Rattle.rpc_tool.specs.Commands.{IsNamed, IsDone, IsRefusal, IsReplay}
-use Rattle.rpc_tool.specs.declared.command.Command.TheVariants.{Show, Write, Frames, Replay}
+use Rattle.rpc_tool.specs.declared.command.Command.TheVariants.{Show, Write, Frames, Menu, Replay}
 use Rattle.rpc_tool.specs.Limits.{most_input}
 use Rattle.rpc_tool.specs.Means.{code_of, IsAnswer, IsSaid, IsAnswered, WasGiven, IsReadThrough, IsReadWhole, IsReportOfInput, MayRunOut, Means}
 
@@ -152,7 +152,11 @@ replay_named words (Ok (Write shape)) (word, is, good) replay = absurd (apart wo
   where
     apart : (word : List ℕ) → ◌≡◌ {A = List (List ℕ)} (codes "write" ∷ word ∷ []) (codes "replay" ∷ []) → ⊥
     apart word e = cc
-replay_named words (Err misuse.Usage) is replay = absurd (is (inr (inl replay)))
+replay_named words (Ok (Menu wanted)) (name, word, is, wants) replay = absurd (apart name word (sym is ∙ replay))
+  where
+    apart : (name word : List ℕ) → ◌≡◌ {A = List (List ℕ)} (codes "menu" ∷ name ∷ word ∷ []) (codes "replay" ∷ []) → ⊥
+    apart name word e = cc
+replay_named words (Err misuse.Usage) is replay = absurd (is (inr (inr (inl replay))))
 replay_named words (Err (misuse.BadShape error)) (word, inl is, refuses) replay = absurd (apart word (sym is ∙ replay))
   where
     apart : (word : List ℕ) → ◌≡◌ {A = List (List ℕ)} (codes "show" ∷ word ∷ []) (codes "replay" ∷ []) → ⊥
@@ -161,6 +165,10 @@ replay_named words (Err (misuse.BadShape error)) (word, inr is, refuses) replay 
   where
     apart : (word : List ℕ) → ◌≡◌ {A = List (List ℕ)} (codes "write" ∷ word ∷ []) (codes "replay" ∷ []) → ⊥
     apart word e = cc
+replay_named words (Err misuse.OutOfMemory) (name, word, is) replay = absurd (apart name word (sym is ∙ replay))
+  where
+    apart : (name word : List ℕ) → ◌≡◌ {A = List (List ℕ)} (codes "menu" ∷ name ∷ word ∷ []) (codes "replay" ∷ []) → ⊥
+    apart name word e = cc
 
 done_code : (s : Status) → code_of s ≡ code_of Done → s ≡ Done
 done_code Done e = refl

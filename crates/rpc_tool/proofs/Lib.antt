@@ -22,3 +22,4 @@ pub mod StreamSteps
 pub mod VersionTexts
 pub mod OneMessage
 pub mod OneStream
+pub mod MenuTexts

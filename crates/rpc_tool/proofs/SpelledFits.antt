@@ -15,6 +15,10 @@ use Rattle.bp_value.specs.Form.{Form, Parts, Cases, unit, bool, char, int, int32
 use Rattle.bp_value.specs.Limits.{deepest_sexp}
 use Rattle.bp_value.specs.Fits.{IsMade, InRange, FitsSexp, Fits, FitParts, FitCase}
 use Rattle.bp_value.proofs.Fitted.{range_is}
+use Rattle.bp_text.specs.Printing.{IsOf}
+use Rattle.rpc_tool.specs.Spelled.{IsSpelled}
+use Rattle.rpc_tool.specs.ValueCommands.{longest_shown}
+use Rattle.rpc_tool.specs.declared.spelled.Spelled.TheVariants as spelled
 use Rattle.bp_grammar.specs.Spells.{unit_of, Sized, Counted, room, SpellsSexp, Spells, SpellParts, SpellCase}
 
 -- ---- leaves
@@ -97,3 +101,9 @@ mutual
   spelled_case_fits m end_cases place vs s l = absurd l
   spelled_case_fits m (case name fs cs) zero vs s l = spelled_parts_fit m fs vs s l
   spelled_case_fits m (case name fs cs) (suc place) vs s l = spelled_case_fits m cs place vs s l
+
+-- ---- hex texts
+
+-- the value that the bytes of a hex text spell is of the form
+pub spelled_value_fits : (f : Form) (input : List ℕ) (v : Value) (count : ℕ) → IsSpelled f input (spelled.Value v count) → IsOf f v
+spelled_value_fits f input v count (bytes, hex, spells, long) = (longest_shown, spelled_fits longest_shown f v bytes spells)

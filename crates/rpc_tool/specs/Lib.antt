@@ -8,6 +8,9 @@ pub mod Replayed
 pub mod Input
 pub mod HexTexts
 pub mod ValueCommands
+pub mod Spelled
+pub mod MenuCommands
+pub mod Wanted
 pub mod StreamLines
 pub mod StreamReads
 pub mod Answers

@@ -59,11 +59,12 @@ abbrev pub MayUseWires : Result Command Misuse → List ℕ → Type 0
 MayUseWires (Ok command) input = MeetsWires command input
 MayUseWires (Err e) input = ⊥
 
--- memory may run out: the words name a command, or it ran out as the word for a shape was read
+-- memory may run out: the words name a command, or it ran out as a word of one was read
 abbrev pub MayRunOut : Result Command Misuse → Type 0
 MayRunOut (Ok command) = ⊤
 MayRunOut (Err misuse.Usage) = ⊥
 MayRunOut (Err (misuse.BadShape error)) = ⊤
+MayRunOut (Err misuse.OutOfMemory) = ⊤
 
 -- What a run says at a status, where `Writes text` is that exactly this text was put to the output:
 -- an answer, or a front of one where writing failed, or nothing.

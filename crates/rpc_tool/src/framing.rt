@@ -5,7 +5,7 @@ ghost use Rattle.rpc_tool.specs.StreamReads.{AppendsLines, AreFramesRefused, Are
 
 use crate::answers::Answer;
 use crate::hexes::{HexError, read_hex};
-use crate::showing::hex_line;
+use crate::spelled::hex_line;
 use crate::stream_lines::{put_header_line, put_message_line, put_stop_line};
 use crate::stream_reading::{LONGEST, Stop, StreamError, next_header, next_message};
 use bp_value::OutOfMemory;

@@ -10,7 +10,7 @@ ghost use Rattle.rpc_tool.specs.Input.{texts, at_line, IsRefusedAt};
 mod line;
 #[cfg(test)]
 mod tests;
-mod words;
+pub mod words;
 
 use bp_value::Listed;
 use line::{LineError, read_event, read_schema};

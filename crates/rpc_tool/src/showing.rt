@@ -1,33 +1,19 @@
 // The command `show`.
-ghost use Rattle.std.specs.Prelude.{◌≡◌, ℕ, IfOk};
-ghost use Rattle.readers.specs.Reader.{Stands};
-ghost use Rattle.bp_value.specs.Form.{form_of, Form};
+ghost use Rattle.std.specs.Prelude.{◌≡◌, IfOk};
+ghost use Rattle.bp_value.specs.Form.{form_of};
 ghost use Rattle.bp_value.specs.Faults.{IsGood};
-ghost use Rattle.bp_grammar.specs.Spells.{Spells};
 ghost use Rattle.bp_text.specs.Printing.{IsOf};
-ghost use Rattle.rpc_msg.specs.Bodies.{IsBodyRead};
-ghost use Rattle.rpc_report.specs.Texts.{fault_text};
-ghost use Rattle.rpc_world.specs.Report.{line};
 ghost use Rattle.rpc_tool.specs.Answers.{Answers};
-ghost use Rattle.rpc_tool.specs.ValueCommands.{hex_refused, longest_shown, shown_text, IsShown, IsShowRefusal};
+ghost use Rattle.rpc_tool.specs.ValueCommands.{shown_text, IsShown, IsShowRefusal};
 
 use crate::answers::Answer;
-use crate::hexes::{HexError, read_hex};
-use bp_codec::{Decoded, Reader};
+use crate::spelled::{Spelled, read_spelled};
 use bp_text::{put_natural, put_value};
 use bp_value::{OutOfMemory, Shape, Value};
-use rpc_msg::{MsgError, MsgFault};
-use rpc_report::put_fault;
 use std::alloc::Global;
 
 #[cfg(test)]
 mod tests;
-
-/// The most bytes of a text, and items of a list, in a value that is shown.
-const LONGEST_SHOWN: u64 = 104_857_600;
-
-/// How many bytes are decoded at once.
-const PIECE: usize = 4096;
 
 /// Shows the value that the bytes of a hex text spell.
 pub fn show(alloc: Global, shape: &Shape, input: &[u8]) -> Result<Answer, OutOfMemory>
@@ -35,53 +21,10 @@ pub fn show(alloc: Global, shape: &Shape, input: &[u8]) -> Result<Answer, OutOfM
     ensures { IfOk result (Answers (IsShown (form_of shape.now) input.now)
         (IsShowRefusal (form_of shape.now) input.now)) }
 {
-    let bytes = match read_hex(alloc, input) {
-        Ok(bytes) => bytes,
-        Err(HexError::BadHex { at }) => return Ok(Answer::Refused(hex_line(alloc, at)?)),
-        Err(HexError::OutOfMemory) => return Err(OutOfMemory),
-    };
-    match decoded(alloc, shape, bytes.as_slice()) {
-        Ok(value) => {
-            let text = shown(alloc, shape, &value, bytes.len())?;
-            Ok(Answer::Done(text))
-        }
-        Err(MsgError::Fault(fault)) => Ok(Answer::Refused(fault_line(alloc, fault)?)),
-        Err(MsgError::OutOfMemory) => Err(OutOfMemory),
+    match read_spelled(alloc, shape, input)? {
+        Spelled::Value { value, count } => Ok(Answer::Done(shown(alloc, shape, &value, count)?)),
+        Spelled::Refused(line) => Ok(Answer::Refused(line)),
     }
-}
-
-/// The value that the bytes spell. They are decoded piece by piece, as a stream of them would be.
-fn decoded(alloc: Global, shape: &Shape, bytes: &[u8]) -> Result<Value, MsgError>
-    requires { IsGood (form_of shape.now) }
-    ensures { IsBodyRead (λ v. v) longest_shown (form_of shape.now) bytes.now result }
-{
-    let mut reader = Reader::new(alloc, shape, LONGEST_SHOWN)?;
-    let mut start = 0;
-    'pieces: while start < bytes.len() {
-        let end = start + PIECE.min(bytes.len() - start);
-        match reader.feed(&bytes[start..end]) {
-            Ok(Decoded::More) => start = end,
-            Ok(Decoded::Whole { value, used }) => return whole(value, start + used, bytes),
-            Ok(Decoded::Bad { at, why }) => {
-                return Err(MsgError::Fault(MsgFault::Bad { at: at as u64, why }));
-            }
-            Err(error) => return Err(error.into()),
-        }
-    }
-    Err(MsgError::Fault(MsgFault::Cut {
-        at: bytes.len() as u64,
-    }))
-}
-
-// A value whose spelling ends at a place has to end all bytes.
-fn whole(value: Value, end: usize, bytes: &[u8]) -> Result<Value, MsgError>
-    ensures { (m : ℕ) (f : Form) → Stands (Spells m f) bytes.now value end
-        → IsBodyRead (λ v. v) m f bytes.now result }
-{
-    if end < bytes.len() {
-        return Err(MsgError::Fault(MsgFault::Trailing { at: end as u64 }));
-    }
-    Ok(value)
 }
 
 // The value's text, and how many bytes spell it.
@@ -95,25 +38,5 @@ fn shown(alloc: Global, shape: &Shape, value: &Value, count: usize) -> Result<Ve
     text.push(b'\n')?;
     put_natural(count as u64, &mut text)?;
     text.extend_from_slice(b" bytes\n")?;
-    Ok(text)
-}
-
-/// The line about a text that is no hex.
-pub fn hex_line(alloc: Global, at: usize) -> Result<Vec<u8>, OutOfMemory>
-    ensures { IfOk result (λ text. text.items ≡ hex_refused at) }
-{
-    let mut text = Vec::new(alloc);
-    text.extend_from_slice(b"input: bad hex at ")?;
-    put_natural(at as u64, &mut text)?;
-    text.push(b'\n')?;
-    Ok(text)
-}
-
-fn fault_line(alloc: Global, fault: MsgFault) -> Result<Vec<u8>, OutOfMemory>
-    ensures { IfOk result (λ text. text.items ≡ line (fault_text fault)) }
-{
-    let mut text = Vec::new(alloc);
-    put_fault(&fault, &mut text)?;
-    text.push(b'\n')?;
     Ok(text)
 }

@@ -3,6 +3,7 @@ use bp_base::{BentWire, MemSink, MemSource, MemWire, Wire};
 use std::alloc::{AllocError, Global};
 use std::test::Fail;
 
+mod menus;
 mod streams;
 mod values;
 

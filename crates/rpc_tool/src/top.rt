@@ -16,6 +16,7 @@ use crate::command::{Command, Misuse, command_of};
 use crate::failure::Failure;
 use crate::framing::frames;
 use crate::input::{InputError, read_schedule};
+use crate::menus::menu;
 use crate::replay::replay;
 use crate::report::push_line_about;
 use crate::shape_words::put_shape_refusal;
@@ -73,6 +74,7 @@ pub fn run<I: Source, O: Sink, W: Wire>(
         Ok(command) => obey(alloc, &command, input, out, up, down).code(),
         Err(Misuse::Usage) => answer(out, USAGE, Status::Usage).code(),
         Err(Misuse::BadShape(error)) => refuse_shape(alloc, &error, out).code(),
+        Err(Misuse::OutOfMemory) => Status::OutOfMemory.code(),
     }
 }
 
@@ -124,6 +126,7 @@ fn perform<O: Sink, W: Wire>(
         Command::Show(shape) => give(show(alloc, shape, text), out),
         Command::Write(shape) => give(write(alloc, shape, text), out),
         Command::Frames => give(frames(alloc, text), out),
+        Command::Menu(wanted) => give(menu(alloc, wanted, text), out),
         Command::Replay => replay_text(alloc, text, out, up, down),
     }
 }

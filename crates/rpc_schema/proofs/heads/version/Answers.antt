@@ -7,7 +7,7 @@ use Rattle.rpc_schema.proofs.heads.version.Goals as goal
 
 pub returns : goal.returns
 returns c =
-    word_takes SpellsVersion c.version_named-version.result c.args.line.now c.take_word.new.self c.take_word.result
-    (subst (λ w. MatchOption c.version_named-version.result ((v : ℤ) → SpellsVersion v w → ⊥) (λ v. SpellsVersion v w)) c.word.ensures
-    c.version_named-version.ensures)
+    word_takes SpellsVersion c.read_version-version.result c.args.line.now c.take_word.new.self c.take_word.result
+    (subst (λ w. MatchOption c.read_version-version.result ((v : ℤ) → SpellsVersion v w → ⊥) (λ v. SpellsVersion v w)) c.word.ensures
+    c.read_version-version.ensures)
     c.take_word.ensures

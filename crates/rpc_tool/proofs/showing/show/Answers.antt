@@ -1,8 +1,10 @@
+use Rattle.std.proofs.Common.{subst}
 use Rattle.bp_value.specs.Form.{form_of}
-use Rattle.rpc_tool.specs.ValueCommands.{longest_shown}
-use Rattle.rpc_tool.proofs.SpelledFits.{spelled_fits}
+use Rattle.rpc_tool.specs.Spelled.{IsSpelled}
+use Rattle.rpc_tool.proofs.SpelledFits.{spelled_value_fits}
 use Rattle.rpc_tool.proofs.showing.show.Goals as goal
 
 pub shown-requires : goal.shown-requires
 shown-requires c =
-    (longest_shown, spelled_fits longest_shown (form_of c.args.shape.now) c.in-Ok-decoded.value c.as_slice.result.now c.in-Ok-decoded.ensures)
+    spelled_value_fits (form_of c.args.shape.now) c.args.input.now c.in-Value.value c.in-Value.count
+    (subst (IsSpelled (form_of c.args.shape.now) c.args.input.now) c.in-Value.is c.in_ok-value.ensures)

@@ -1,7 +1,8 @@
 use Rattle.std.proofs.Common.{arith, refl, subst, sym, ◌∙◌, []}
+use Rattle.bp_base.proofs.Telling.{Gains-nil}
 use Rattle.std.specs.Prelude.{Err}
 use Rattle.rpc_tool.specs.declared.command.Misuse.TheVariants as misuse
-use Rattle.rpc_tool.specs.declared.status.Status.TheVariants.{BadShape, Usage, ReadFault, WriteFault, WireFault}
+use Rattle.rpc_tool.specs.declared.status.Status.TheVariants.{BadShape, Usage, OutOfMemory, ReadFault, WriteFault, WireFault}
 use Rattle.bp_base.specs.Told.{Gains}
 use Rattle.bp_base.specs.Whole.{Came}
 use Rattle.bp_base.proofs.Runs.{Came-nil}
@@ -59,6 +60,21 @@ returns-in-Err-Usage-clause-means g c =
     (λ long. absurd (before_short _ before long), λ long. absurd (omega (arith, long)))
     (before_whole _ before)
     (answered_said Reports (Err misuse.Usage) [] Writes Usage _ c.answer.result refl answered))
+
+pub returns-in-Err-OutOfMemory-clause-means : goal.returns-in-Err-OutOfMemory-clause-means
+returns-in-Err-OutOfMemory-clause-means g c =
+    let Reports = ReportsOver g.W.Wire.honest g.W.Wire.sent g.W.Wire.given
+    c.args.up.now c.args.up.now c.args.down.now c.args.down.now in
+    let Comes = Came g.I.Source.given g.I.Source.left c.args.input.now c.args.input.now in
+    let Writes = Gains g.O.Sink.put c.args.out.now c.args.out.now in
+    subst (Means Reports Comes (g.I.Source.left c.args.input.now) _ Writes c.args.words.now)
+    (sym c.code-in-Err-OutOfMemory.ensures)
+    (stopped _ _ _ _ Writes c.args.words.now (Err misuse.OutOfMemory) OutOfMemory []
+    (rw c.in-Err-OutOfMemory.field-0-is at c.in-Err-OutOfMemory.ensures)
+    (Came-nil g.I.Source.given g.I.Source.left c.args.input.now)
+    (λ long. absurd (before_short OutOfMemory tt long), λ long. absurd (omega (arith, long)))
+    (before_whole OutOfMemory tt)
+    (tt, Gains-nil g.O.Sink.put c.args.out.now))
 
 pub returns-in-Ok-clause-reported : goal.returns-in-Ok-clause-reported
 returns-in-Ok-clause-reported g c = λ done fresh.

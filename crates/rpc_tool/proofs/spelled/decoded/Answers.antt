@@ -6,7 +6,7 @@ use Rattle.bp_grammar.specs.Spells.{Spells}
 use Rattle.bp_codec.specs.Fed.{IsFed}
 use Rattle.rpc_tool.specs.ValueCommands.{longest_shown}
 use Rattle.rpc_tool.proofs.Pieces.{cut_short, fed_on, stands_in_all, faulty_in_all}
-use Rattle.rpc_tool.proofs.showing.decoded.Goals as goal
+use Rattle.rpc_tool.proofs.spelled.decoded.Goals as goal
 
 pub pieces-preserved : goal.pieces-preserved
 pieces-preserved c =

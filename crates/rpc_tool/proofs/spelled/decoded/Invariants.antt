@@ -2,7 +2,7 @@ use Rattle.std.proofs.Common.{◌-◌, ◌≤◌, length, take}
 use Rattle.bp_value.specs.Form.{form_of}
 use Rattle.bp_codec.specs.Fed.{HasFed}
 use Rattle.rpc_tool.specs.ValueCommands.{longest_shown}
-use Rattle.rpc_tool.proofs.showing.decoded.Given as goal
+use Rattle.rpc_tool.proofs.spelled.decoded.Given as goal
 
 abbrev pub invariant-pieces : goal.invariant-pieces
 invariant-pieces l = record {
