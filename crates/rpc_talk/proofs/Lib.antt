@@ -1,0 +1,14 @@
+pub mod OneMore
+pub mod Accepting
+pub mod Opening
+pub mod Causing
+pub mod Placing
+pub mod StreamCauses
+pub mod ReadBack
+pub mod AskBack
+pub mod Lengths
+pub mod ShortFits
+pub mod ShortBodies
+pub mod Messages
+pub mod HeaderBack
+pub mod Fitting

@@ -1,0 +1,10 @@
+pub mod Said
+pub mod Parts
+pub mod Growing
+pub mod Opened
+pub mod Welcome
+pub mod Causes
+pub mod Asks
+pub mod Acts
+pub mod Legal
+pub mod Spellable
