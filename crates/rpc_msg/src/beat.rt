@@ -64,14 +64,12 @@ impl Beat {
         self.last_heard = self.latest;
     }
 
-    /// What is due: the other end is late where it was silent for more than the timeout; else a
-    /// heartbeat is sent, where the end may send, once per span.
-    pub fn tick(&mut self, now: u64, may_send: bool) -> BeatAct
-        ensures act { result ≡ beat_of self.old now may_send }
-        ensures state { self.new ≡ after_beat self.old now result }
+    /// What is due at a moment: the other end is late where it was silent for more than the
+    /// timeout; else a heartbeat is sent, where the end may send, once per span.
+    pub fn due(&self, now: u64, may_send: bool) -> BeatAct
+        ensures { result ≡ beat_of self.now now may_send }
     {
-        self.latest = self.latest.max(now);
-        let now = self.latest;
+        let now = self.latest.max(now);
         if now - self.last_heard > self.timeout {
             return BeatAct::Late {
                 last: self.last_heard,
@@ -79,9 +77,21 @@ impl Beat {
             };
         }
         if may_send && now - self.last_sent >= self.every {
-            self.last_sent = now;
             return BeatAct::Send;
         }
         BeatAct::Quiet
+    }
+
+    /// Does what is due: where it is a heartbeat, that counts as sent now.
+    pub fn tick(&mut self, now: u64, may_send: bool) -> BeatAct
+        ensures act { result ≡ beat_of self.old now may_send }
+        ensures state { self.new ≡ after_beat self.old now result }
+    {
+        let act = self.due(now, may_send);
+        self.latest = self.latest.max(now);
+        if act == BeatAct::Send {
+            self.last_sent = self.latest;
+        }
+        act
     }
 }
