@@ -1,0 +1,10 @@
+pub mod ActLaws
+pub mod AskLaws
+pub mod DataBytes
+pub mod HearLaws
+pub mod Legal
+pub mod MenuBytes
+pub mod Places
+pub mod Readings
+pub mod Serving
+pub mod Short

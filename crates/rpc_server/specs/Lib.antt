@@ -1,0 +1,9 @@
+pub mod Giving
+pub mod Tables
+pub mod Rules
+pub mod Asking
+pub mod Hearing
+pub mod Steps
+pub mod Servers
+pub mod Acting
+pub mod Doing
