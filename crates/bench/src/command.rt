@@ -25,6 +25,10 @@ pub enum Command {
     Frames {
         count: u32,
     },
+    /// Times so many calls, with a short text and with a long one.
+    Calls {
+        count: u32,
+    },
     /// Writes the bytes of a set.
     Make(Set),
     /// Writes the bytes of a stream.
@@ -40,6 +44,11 @@ pub fn command_of(words: &[String]) -> Option<Command> {
         [make, set] if make.as_str() == "make" => Some(Command::Make(Set::named(set.as_str())?)),
         [once, frames, count] if once.as_str() == "once" && frames.as_str() == "frames" => {
             Some(Command::Frames {
+                count: count.as_str().parse().ok()?,
+            })
+        }
+        [once, echo, count] if once.as_str() == "once" && echo.as_str() == "echo" => {
+            Some(Command::Calls {
                 count: count.as_str().parse().ok()?,
             })
         }

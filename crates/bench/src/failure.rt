@@ -9,7 +9,7 @@ use thiserror::Error;
 /// Why a run ended without its answer.
 #[derive(Clone, Copy, Debug, PartialEq, Eq, Error)]
 pub enum Failure {
-    #[error("usage: bench once decode|encode SET K | once frames K | make SET | make frames")]
+    #[error("usage: bench once decode|encode SET K | once frames|echo K | make SET | make frames")]
     Usage,
     #[error("the input is no value of the set: its byte {at}, counted from 0, is at fault")]
     BadByte { at: usize },

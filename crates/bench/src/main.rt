@@ -2,6 +2,7 @@
 //! stream of messages, and the bytes of these.
 #![tactic(auto)]
 
+mod calls;
 mod command;
 mod failure;
 mod making;
@@ -22,6 +23,11 @@ use std::time::Duration;
 
 /// How many bytes of input are read.
 const MAX_INPUT: usize = 1 << 28;
+
+/// The letters of a call's text.
+const SHORT: usize = 2;
+
+const LONG: usize = 1000;
 
 fn main(rt: HostRuntime) -> ExitCode {
     match run(&rt) {
@@ -56,10 +62,22 @@ fn run(rt: &HostRuntime) -> Result<(), Failure> {
             let line = println!(rt; "frames {count} {seconds}.{micros:06}");
             line.map_err(|_| Failure::WriteFault)
         }
+        Some(Command::Calls { count }) => {
+            echo(rt, SHORT, count)?;
+            echo(rt, LONG, count)
+        }
         Some(Command::Make(set)) => put(rt, &making::bytes_of(rt.alloc(), set)?),
         Some(Command::MakeFrames) => put(rt, &streams::stream(rt.alloc())?),
         None => Err(Failure::Usage),
     }
+}
+
+/// Times so many calls, each with a text of so many letters.
+fn echo(rt: &HostRuntime, letters: usize, count: u32) -> Result<(), Failure> {
+    let took = calls::calls_time(rt, rt.alloc(), letters, count)?;
+    let (seconds, micros) = (took.as_secs(), took.subsec_micros());
+    let line = println!(rt; "echo {letters} {count} {seconds}.{micros:06}");
+    line.map_err(|_| Failure::WriteFault)
 }
 
 /// How long so many operations took on the value that standard input spells.
