@@ -1,15 +1,10 @@
 -- What a client that got some bytes is once bytes close it.
-use Rattle.std.proofs.Common.{◌≡◌, refl, sym, ap, ◌∙◌, subst, inl, inr, ◌⊎◌, ℕ, ◌+◌, ◌<◌, ◌≤◌, ◌^◌, Bool, true, false, if◌then◌else◌, List, [], ◌∷◌, ◌++◌, length, take, drop, append_assoc}
+use Rattle.std.proofs.Common.{◌≡◌, refl, sym, ap, ◌∙◌, subst, inl, inr, ◌⊎◌, ℕ, ◌+◌, ◌<◌, ◌≤◌, ◌^◌, Bool, true, false, if◌then◌else◌, List, [], ◌∷◌, ◌++◌, length, take, append_assoc}
 use Rattle.std.specs.Prelude.{Option, Some, None}
-use Rattle.readers.specs.Reader.{Each, IsByte, IsFaultAt, Outcome, Stands, bad, whole}
-use Rattle.readers.proofs.Places.{only_bad, only_whole}
+use Rattle.readers.specs.Reader.{Each, IsByte, whole}
 use Rattle.readers.proofs.Readers.{each-rest}
-use Rattle.bp_num.specs.declared.number.Why.{Why}
-use Rattle.bp_num.specs.declared.number.Why.TheVariants.{Length}
-use Rattle.rpc_frame.specs.Frames.{frame_at, frames, FrameWhy, IsFrame}
-use Rattle.rpc_frame.proofs.FrameReads.{right_frame}
-use Rattle.rpc_frame.specs.States.{stream_place}
-use Rattle.rpc_frame.specs.Streams.{bodies, AreBodies}
+use Rattle.rpc_frame.specs.Frames.{frames}
+use Rattle.rpc_frame.specs.Streams.{bodies}
 use Rattle.rpc_frame.proofs.StreamBodies.{bodies_are}
 use Rattle.rpc_msg.specs.declared.message.Header.{Header}
 use Rattle.rpc_msg.specs.declared.message.Message.{Message}
@@ -18,12 +13,11 @@ use Rattle.rpc_msg.specs.declared.shared.CloseCause.TheVariants as cause
 use Rattle.rpc_log.specs.Logs.{is_opening, log_in, log_of, messages_in, opens, then_messages}
 use Rattle.rpc_log.specs.Readings.{has_one, header_in, message_in}
 use Rattle.rpc_talk.specs.Causes.{bad_header, bad_message, cause_of, header_cause}
-use Rattle.rpc_talk.specs.Opened.{AreReadAs, AreOpened}
+use Rattle.rpc_talk.specs.Opened.{AreReadAs}
 use Rattle.rpc_talk.specs.Welcome.{accepted}
-use Rattle.rpc_talk.proofs.Accepting.{IsTaken}
 use Rattle.rpc_talk.proofs.Opening.{first_read, no_more, opened_log}
 use Rattle.rpc_talk.proofs.Placing.{bad_none}
-use Rattle.rpc_talk.proofs.StreamCauses.{no_frame_cause}
+use Rattle.rpc_talk.proofs.StreamCauses.{no_frame_cause, none_before}
 use Rattle.rpc_end.specs.Ends.{EndState, EndsFrame, PassesLimit, closed_by, holding, unread}
 use Rattle.rpc_end.specs.Taken.{has_first, HasTaken}
 use Rattle.rpc_end.specs.Taking.{IsClosedBy}
@@ -31,22 +25,6 @@ use Rattle.rpc_end.proofs.Taken.{ended_bodies, fault_front, limit_few, long_caus
 use Rattle.rpc_client.specs.Clients.{ClientState}
 use Rattle.rpc_client.specs.Kept.{accepted_of, row_calls, HasGot, IsGoing}
 use Rattle.rpc_client.proofs.Feeds.{kept_by_log, stops, AreKept}
-
--- ---- frames
-
-one_why : (m : ℕ) (p : List ℕ) (b : ℕ) (v w : Why) → FrameWhy m p b v → FrameWhy m p b w → v ≡ w
-one_why m p b v w (inl one) (inl two) = one.0 ∙ sym two.0
-one_why m p b v w (inl one) (inr (n, t, q, cut, is, none)) = absurd none
-one_why m p b v w (inr (n, t, q, cut, is, none)) two = absurd none
-
--- no frame stands in front of a byte that makes a length too long
-none_before : (m : ℕ) (rest : List ℕ) (k : ℕ) → m < 256 ^ 8 → Each IsByte rest → IsFaultAt (IsFrame m) (FrameWhy m) rest k Length → (body : List ℕ) (n : ℕ)
-    → Stands (IsFrame m) rest body n → ⊥
-none_before m rest k few bytes fault body n stands =
-    let (left, sum, stops) = only_bad IsByte (IsFrame m) (FrameWhy m) (frame_at m) (right_frame m) rest k Length bytes fault (one_why m) in
-    let there : frame_at m rest ≡ whole body (drop n rest) = only_whole IsByte (IsFrame m) (FrameWhy m) (frame_at m) (right_frame m) rest body n stands in
-    let line : ◌≡◌ {A = Outcome ℕ Why (List ℕ)} (bad left Length) (whole body (drop n rest)) = sym stops ∙ there in
-    cc
 
 -- ---- logs that stop at a body
 
@@ -105,7 +83,7 @@ module _ (c : ClientState) (got piece : List ℕ) (open_ : c.link.cause ≡ None
   closes e used why max bytes log_is =
       stops (record c { link = closed_by e why }) (after used) going.log why (max ∙ has.max) (subst (λ n. n ≤ 2 ^ 30) (sym max) has.limit) bytes
       (subst (λ n. accepted_of n c.rows (after used) ≡ going.log) (sym max) (ap (accepted c.link.max (row_calls c.rows)) log_is ∙ going.all))
-      (subst (λ n. AreKept n going.log c.rows) (sym max) (kept_by_log c got open_ has going)) has.numbered refl
+      (subst (λ n. AreKept n going.log c.rows) (sym max) (kept_by_log c got open_ has going)) has.calls refl
 
   -- a length that is too long adds no body
   long_log : (n : ℕ) → Each IsByte (after (n + 1)) → PassesLimit c.link piece n → log_of c.link.max (after (n + 1)) ≡ going.log
@@ -118,7 +96,7 @@ module _ (c : ClientState) (got piece : List ℕ) (open_ : c.link.cause ≡ None
       let rest_bytes : Each IsByte rest = each-rest IsByte (frames going.bodies) rest (subst (Each IsByte) cut bytes) in
       let same : bodies c.link.max (after (n + 1)) ≡ going.bodies =
       bodies_are c.link.max few (after (n + 1)) going.bodies bytes
-      (record { rest = rest; whole = cut; short = are.short; over = none_before c.link.max rest (length c.link.held + n) few rest_bytes fault }) in
+      (record { rest = rest; whole = cut; short = are.short; over = none_before c.link.max few rest (length c.link.held + n) rest_bytes fault }) in
       ap (log_in c.link.max) same ∙ opened_log c.link.max going.bodies going.log going.took.read
 
   body_log : (body : List ℕ) (used : ℕ) (why : CloseCause) → Each IsByte (after used) → EndsFrame c.link piece body used → unread c.link body ≡ Some why

@@ -52,7 +52,7 @@ module _ (m : ℕ) (few : m < 256 ^ 8) where
       )
 
   -- no frame stands in front of a byte that makes a length too long
-  none_before : (rest : List ℕ) (k : ℕ) → Each IsByte rest → IsFaultAt (IsFrame m) (FrameWhy m) rest k Length → (body : List ℕ) (n : ℕ) → Stands (IsFrame m) rest body n → ⊥
+  pub none_before : (rest : List ℕ) (k : ℕ) → Each IsByte rest → IsFaultAt (IsFrame m) (FrameWhy m) rest k Length → (body : List ℕ) (n : ℕ) → Stands (IsFrame m) rest body n → ⊥
   none_before rest k bytes fault body n stands =
       let (left, sum, stops) = only_bad IsByte (IsFrame m) (FrameWhy m) (frame_at m) (right_frame m) rest k Length bytes fault (one_why m) in
       let there : frame_at m rest ≡ whole body (drop n rest) = only_whole IsByte (IsFrame m) (FrameWhy m) (frame_at m) (right_frame m) rest body n stands in
