@@ -20,8 +20,8 @@ use Rattle.rpc_end.specs.Ends.{EndState, is_closed, said}
 use Rattle.rpc_end.specs.Taken.{HasTaken}
 use Rattle.rpc_end.proofs.Taken.{limit_few}
 use Rattle.rpc_client.specs.Clients.{ClientState}
-use Rattle.rpc_client.specs.Kept.{accepted_of, row_call, row_calls, HaveOwnIds, AreNumbered, HasGot, IsGoing, IsKept, IsNumberedBy}
-use Rattle.rpc_client.specs.Rows.{Row, new_row}
+use Rattle.rpc_client.specs.Kept.{accepted_of, row_call, row_calls, HaveOwnIds, AreCalls, HasGot, IsGoing, IsKept, IsNumberedBy}
+use Rattle.rpc_client.specs.Rows.{Row, new_row, IsCallable}
 use Rattle.rpc_client.specs.Tables.{find_row, has_row_id, is_answered, is_unanswered, next_call_id, call_number}
 use Rattle.rpc_client.proofs.GotSteps.{new_kept}
 use Rattle.rpc_client.proofs.Places.{count_push}
@@ -54,10 +54,10 @@ differs_by true false rows id (k, lt, is) e = let same = pos_is (2 * k) (2 * cou
 differs_by false true rows id (k, lt, is) e = let same = pos_is (2 * k + 1) (2 * count_by is_answered rows) (sym is ∙ e) in omega (arith, same)
 differs_by false false rows id (k, lt, is) e = let same = pos_is (2 * k + 1) (2 * count_by is_unanswered rows + 1) (sym is ∙ e) in omega (arith, lt, same)
 
-pub fresh : (rows : List Row) (c : Bool) → AreNumbered rows → Each (λ row. row.id ≢ pos (call_number c rows)) rows
-fresh rows c numbered =
+pub fresh : (rows : List Row) (c : Bool) → AreCalls rows → Each (λ row. row.id ≢ pos (call_number c rows)) rows
+fresh rows c calls =
     each_map (λ row. IsNumberedBy (is_tracked row.desc.kind) (count_by is_answered rows) (count_by is_unanswered rows) row.id) (λ row. row.id ≢ pos (call_number c rows)) rows
-    (λ row by. differs_by (is_tracked row.desc.kind) c rows row.id by) numbered.each
+    (λ row by. differs_by (is_tracked row.desc.kind) c rows row.id by) calls.each
 
 new_number : (rows : List Row) (d : RpcDesc) (b : Bool) → is_tracked d.kind ≡ b
     → IsNumberedBy b (count_by is_answered (rows ++ new_row (pos (call_number b rows)) d ∷ [])) (count_by is_unanswered (rows ++ new_row (pos (call_number b rows)) d ∷ [])) (pos (call_number b rows))
@@ -74,18 +74,19 @@ new_number rows d false is = (
   refl,
 )
 
-pub dispatch_numbered : (rows : List Row) (d : RpcDesc) → AreNumbered rows → AreNumbered (rows ++ new_row (next_call_id d.kind rows) d ∷ [])
-dispatch_numbered rows d numbered =
+pub dispatch_calls : (rows : List Row) (d : RpcDesc) → IsCallable d → AreCalls rows → AreCalls (rows ++ new_row (next_call_id d.kind rows) d ∷ [])
+dispatch_calls rows d callable calls =
     let new = new_row (next_call_id d.kind rows) d in
     let few : count_by is_answered rows ≤ count_by is_answered (rows ++ new ∷ []) = let more = count_push is_answered rows new in omega (arith, more) in
     let few_one_way : count_by is_unanswered rows ≤ count_by is_unanswered (rows ++ new ∷ []) = let more = count_push is_unanswered rows new in omega (arith, more) in
     record {
+      callable = each_push (λ row. IsCallable row.desc) rows new calls.callable callable;
       each = each_push (λ row. IsNumberedBy (is_tracked row.desc.kind) (count_by is_answered (rows ++ new ∷ [])) (count_by is_unanswered (rows ++ new ∷ [])) row.id) rows new
           (each_map (λ row. IsNumberedBy (is_tracked row.desc.kind) (count_by is_answered rows) (count_by is_unanswered rows) row.id)
           (λ row. IsNumberedBy (is_tracked row.desc.kind) (count_by is_answered (rows ++ new ∷ [])) (count_by is_unanswered (rows ++ new ∷ [])) row.id) rows
-          (λ row by. more_numbers (is_tracked row.desc.kind) _ _ _ _ row.id few few_one_way by) numbered.each)
+          (λ row by. more_numbers (is_tracked row.desc.kind) _ _ _ _ row.id few few_one_way by) calls.each)
           (new_number rows d (is_tracked d.kind) refl);
-      apart = apart_push rows new numbered.apart (fresh rows (is_tracked d.kind) numbered);
+      apart = apart_push rows new calls.apart (fresh rows (is_tracked d.kind) calls);
     }
 
 -- ---- what was accepted
@@ -120,13 +121,13 @@ said_taken e a got bs log took = record {
   read = took.read;
 }
 
-pub dispatch_got : (c : ClientState) (d : RpcDesc) (query : Message) (got : List ℕ) → c.link.cause ≡ None → HasGot c got
+pub dispatch_got : (c : ClientState) (d : RpcDesc) (query : Message) (got : List ℕ) → IsCallable d → c.link.cause ≡ None → HasGot c got
     → HasGot (record c { rows = c.rows ++ new_row (next_call_id d.kind c.rows) d ∷ []; link = said c.link query }) got
-dispatch_got c d query got open_ has =
+dispatch_got c d query got callable open_ has =
     let going = has.going open_ in
     let new = new_row (next_call_id d.kind c.rows) d in
     let m = c.link.max in
-    let differ = fresh c.rows (is_tracked d.kind) has.numbered in
+    let differ = fresh c.rows (is_tracked d.kind) has.calls in
     let none : find_call new.id (row_calls c.rows) ≡ None = found_call new.id c.rows ∙ ap (option_map row_call) (no_call new.id c.rows differ) in
     let all : accepted m (row_calls (c.rows ++ new ∷ [])) going.log ≡ going.log =
     ap (λ calls. accepted m calls going.log) (more_calls c.rows new) ∙ accepted_calls m (row_calls c.rows) (row_call new ∷ []) [] going.log going.all in
@@ -144,6 +145,6 @@ dispatch_got c d query got open_ has =
           (subst (λ b. IsKept m b (responses_of new.id (accepted_of m (c.rows ++ new ∷ []) got)) new) (sym closed)
           (subst (λ acc. IsKept m false (responses_of new.id acc) new) (sym now)
           (subst (λ answers. IsKept m false answers new) (sym (no_responses m new.id (row_calls c.rows) [] going.log none going.all)) (new_kept m new.id d))));
-      numbered = dispatch_numbered c.rows d has.numbered;
+      calls = dispatch_calls c.rows d callable has.calls;
       going = λ e. record { bodies = going.bodies; log = going.log; took = said_taken c.link query got going.bodies going.log going.took; all = all };
     }

@@ -20,12 +20,12 @@ use Rattle.rpc_end.specs.Taking.{GivesMessage, IsPartTaken}
 use Rattle.rpc_end.specs.declared.end.Got.{Got}
 use Rattle.rpc_end.proofs.Taken.{limit_few, taken_message, taken_part, unwelcome_cause}
 use Rattle.rpc_client.specs.Clients.{ClientState, answering, by_rows, client_behind, hearing, no_procedure}
-use Rattle.rpc_client.specs.Kept.{accepted_of, row_calls, AreNumbered, HasGot, IsGoing, IsKept}
+use Rattle.rpc_client.specs.Kept.{accepted_of, row_calls, AreCalls, HasGot, IsGoing, IsKept}
 use Rattle.rpc_client.specs.Rows.{Row}
 use Rattle.rpc_client.specs.Tables.{rows_heard}
 use Rattle.rpc_client.proofs.Dispatches.{all_accepted, said_taken, taken_log}
 use Rattle.rpc_client.proofs.GotSteps.{closed_row}
-use Rattle.rpc_client.proofs.Numbers.{same_numbered}
+use Rattle.rpc_client.proofs.Numbers.{same_calls_are}
 use Rattle.rpc_client.proofs.TableSteps.{each_map, no_more, rows_hear, Hears}
 
 -- each call is what the responses of a log make of it
@@ -41,8 +41,8 @@ kept_by_log c got open_ has going =
 
 -- it took bytes, accepted all of their log, and has rows that are kept by it
 pub goes_on : (c : ClientState) (got : List ℕ) (bs : List (List ℕ)) (log : List Message) → c.link.max ≡ c.limits.max_message → c.link.max ≤ 2 ^ 30 → Each IsByte got
-    → HasTaken c.link got bs log → IsTaken c.link.max (row_calls c.rows) [] log → AreKept c.link.max log c.rows → AreNumbered c.rows → c.link.cause ≡ None → HasGot c got
-goes_on c got bs log max limit bytes took all kept numbered open_ =
+    → HasTaken c.link got bs log → IsTaken c.link.max (row_calls c.rows) [] log → AreKept c.link.max log c.rows → AreCalls c.rows → c.link.cause ≡ None → HasGot c got
+goes_on c got bs log max limit bytes took all kept calls open_ =
     let going : IsGoing c got = record { bodies = bs; log = log; took = took; all = all } in
     record {
       max = max;
@@ -50,14 +50,14 @@ goes_on c got bs log max limit bytes took all kept numbered open_ =
       bytes = bytes;
       kept = subst (λ b. Each (λ row. IsKept c.link.max b (responses_of row.id (accepted_of c.link.max c.rows got)) row) c.rows) (sym (ap is_some open_))
           (subst (λ x. Each (λ row. IsKept c.link.max false (responses_of row.id x) row) c.rows) (sym (all_accepted c got limit bytes going)) kept);
-      numbered = numbered;
+      calls = calls;
       going = λ e. going;
     }
 
 -- it closed, and accepted this log of the bytes that it got
 pub stops : (c : ClientState) (got : List ℕ) (log : List Message) (why : CloseCause) → c.link.max ≡ c.limits.max_message → c.link.max ≤ 2 ^ 30 → Each IsByte got
-    → accepted_of c.link.max c.rows got ≡ log → AreKept c.link.max log c.rows → AreNumbered c.rows → c.link.cause ≡ Some why → HasGot c got
-stops c got log why max limit bytes is kept numbered closed =
+    → accepted_of c.link.max c.rows got ≡ log → AreKept c.link.max log c.rows → AreCalls c.rows → c.link.cause ≡ Some why → HasGot c got
+stops c got log why max limit bytes is kept calls closed =
     record {
       max = max;
       limit = limit;
@@ -66,7 +66,7 @@ stops c got log why max limit bytes is kept numbered closed =
           (subst (λ x. Each (λ row. IsKept c.link.max true (responses_of row.id x) row) c.rows) (sym is)
           (each_map (λ row. IsKept c.link.max false (responses_of row.id log) row) (λ row. IsKept c.link.max true (responses_of row.id log) row) c.rows
           (λ row keeps. closed_row c.link.max (responses_of row.id log) row keeps) kept));
-      numbered = numbered;
+      calls = calls;
       going = λ e. absurd (let line : Some why ≡ None = sym closed ∙ e in cc);
     }
 
@@ -84,7 +84,7 @@ part_got c new got piece now used open_ has bytes part =
     let (after, took) = taken_part c.link got piece now used new going.bodies going.log going.took part in
     goes_on (record c { link = new }) (got ++ take used piece) after going.log (max ∙ has.max) (subst (λ m. m ≤ 2 ^ 30) (sym max) has.limit) bytes took
     (subst (λ m. IsTaken m (row_calls c.rows) [] going.log) (sym max) going.all) (subst (λ m. AreKept m going.log c.rows) (sym max) (kept_by_log c got open_ has going))
-    has.numbered (cause ∙ open_)
+    has.calls (cause ∙ open_)
 
 -- ---- a message
 
@@ -139,7 +139,7 @@ module _ (c : ClientState) (mid : EndState) (got piece : List ℕ) (now : ℕ) (
       (subst (λ n. n ≤ 2 ^ 30) (sym max) has.limit) bytes (answered_took o)
       (subst (λ n. IsTaken n (row_calls rows) [] (going.log ++ g.message ∷ [])) (sym max)
       (subst (λ calls. IsTaken m calls [] (going.log ++ g.message ∷ [])) (sym calls) (accepted_more m (row_calls c.rows) going.log g.message going.all welcome)))
-      (subst (λ n. AreKept n (going.log ++ g.message ∷ []) rows) (sym max) kept) (same_numbered rows c.rows calls has.numbered) (answered_cause o)
+      (subst (λ n. AreKept n (going.log ++ g.message ∷ []) rows) (sym max) kept) (same_calls_are rows c.rows calls has.calls) (answered_cause o)
 
   -- it is not, and closes the client
   unwelcome_got : (why : CloseCause) → is_welcome m (row_calls c.rows) going.log g.message ≡ false → HasGot (record c { link = shut (heard mid now) why }) after
@@ -151,7 +151,7 @@ module _ (c : ClientState) (mid : EndState) (got piece : List ℕ) (now : ℕ) (
       ∙ accepted_not m (row_calls c.rows) going.log [] g.message going.all not_welcome) in
       subst (λ e. HasGot (record c { link = e }) after) (sym (ap (shut_by (heard mid now) why) mid_cause))
       (stops (record c { link = closed_by (heard mid now) why }) after going.log why (mid_max ∙ has.max) (subst (λ n. n ≤ 2 ^ 30) (sym mid_max) has.limit) bytes accepted_is
-      (subst (λ n. AreKept n going.log c.rows) (sym mid_max) (kept_by_log c got open_ has going)) has.numbered refl)
+      (subst (λ n. AreKept n going.log c.rows) (sym mid_max) (kept_by_log c got open_ has going)) has.calls refl)
 
   -- the bytes of a message that is welcome have no fault
   no_fault : is_welcome m (row_calls c.rows) going.log g.message ≡ true → cause_of m (row_calls c.rows) after ≡ None
@@ -172,7 +172,7 @@ module _ (c : ClientState) (mid : EndState) (got piece : List ℕ) (now : ℕ) (
         (other_kept m going.log g.message c.rows (λ id. no_more id going.log g.message (ap (response_for id) e)) (kept_by_log c got open_ has going)),
     no_fault (ap (is_welcome m (row_calls c.rows) going.log) e),
   )
-  by_message (message.Response r) e = by_heard (rows_heard m c.rows r.id r.result) (rows_hear m going.log c.rows r.id r.result has.numbered.apart (kept_by_log c got open_ has going))
+  by_message (message.Response r) e = by_heard (rows_heard m c.rows r.id r.result) (rows_hear m going.log c.rows r.id r.result has.calls.apart (kept_by_log c got open_ has going))
     where
       by_heard : (x : Result (List Row) CloseCause) → Hears m c.rows going.log r.id r.result x → HasGot (client_behind c mid now (by_rows c.rows x)) after × AreFaults c got piece g (by_rows c.rows x).cause
       by_heard (Ok rows) (welcome, calls, kept) =

@@ -19,7 +19,7 @@ use Rattle.bp_value.specs.declared.value.Value.{Value}
 use Rattle.rpc_client.specs.declared.error.DispatchError.{DispatchError}
 use Rattle.rpc_client.specs.Clients.{ClientState, next_query, IsClientFed, IsDispatched}
 use Rattle.rpc_client.specs.Kept.{FeedsGot, HasGot, KeepsGot, TakesHeld, ReceivesHeld}
-use Rattle.rpc_client.specs.Rows.{Row}
+use Rattle.rpc_client.specs.Rows.{Row, IsCallable}
 use Rattle.rpc_client.specs.Tables.{TakesRow, ShownOf, find_row}
 use Rattle.rpc_client.proofs.Dispatches.{dispatch_got}
 use Rattle.rpc_client.proofs.Gots.{feed_got, shut_got, take_got, take_out_got, tick_got, took_held, shown_held}
@@ -62,10 +62,10 @@ open_none e is = by e.greeted e.cause is
     by true (Some why) e = absurd cc
     by false o e = absurd cc
 
-pub dispatch_keeps : (old new : ClientState) (d : RpcDesc) (v : Value) (answer : Result Ticket DispatchError) → IsDispatched old d v answer new → KeepsGot old new
-dispatch_keeps old new d v (Err why) (refuses, is) got has = subst (λ x. HasGot x got) (sym is) has
-dispatch_keeps old new d v (Ok ticket) (can, id, is) got has =
-    subst (λ x. HasGot x got) (sym is) (dispatch_got old d (next_query old d v) got (open_none old.link can.0.0.0.0) has)
+pub dispatch_keeps : (old new : ClientState) (d : RpcDesc) (v : Value) (answer : Result Ticket DispatchError) → IsCallable d → IsDispatched old d v answer new → KeepsGot old new
+dispatch_keeps old new d v (Err why) callable (refuses, is) got has = subst (λ x. HasGot x got) (sym is) has
+dispatch_keeps old new d v (Ok ticket) callable (can, id, is) got has =
+    subst (λ x. HasGot x got) (sym is) (dispatch_got old d (next_query old d v) got callable (open_none old.link can.0.0.0.0) has)
 
 pub feed_keeps : (old new : ClientState) (piece : List ℕ) (now : ℕ) (answer : Result ℕ FeedError) → Each IsByte piece → IsClientFed old piece now answer new → FeedsGot old piece answer new
 feed_keeps old new piece now answer bytes did got has = feed_got old piece now answer new got bytes has did

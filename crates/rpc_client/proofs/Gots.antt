@@ -37,14 +37,14 @@ use Rattle.rpc_schema.specs.declared.desc.RpcDesc.{RpcDesc}
 use Rattle.rpc_client.specs.declared.error.AbortError.{AbortError}
 use Rattle.rpc_client.specs.declared.error.AbortError.TheVariants as refused
 use Rattle.rpc_client.specs.Clients.{ClientState, client_behind, fed, first_client, hearing, next_query, with_link, with_rows, IsAborted, IsDispatched, IsClientFed, PassesOn, HearsOne, ShowsCall}
-use Rattle.rpc_client.specs.Kept.{accepted_of, row_calls, ending_kept, AreNumbered, GotOn, HasGot, Holds, IsGoing, IsKept, KeepsGot, TakesHeld, TookHeld, ReceivesHeld, ShowsHeld}
+use Rattle.rpc_client.specs.Kept.{accepted_of, row_calls, ending_kept, AreCalls, GotOn, HasGot, Holds, IsGoing, IsKept, KeepsGot, TakesHeld, TookHeld, ReceivesHeld, ShowsHeld}
 use Rattle.rpc_client.specs.Rows.{Row, abort_refusal, row_aborted, after_take, is_at_first}
 use Rattle.rpc_client.specs.Tables.{abort_data, find_row, has_row_id, call_query, refusal_at, with_row, AbortsRow, RowTaken, TakesRow, ShownOf}
 use Rattle.rpc_client.proofs.Closes.{closed_got}
 use Rattle.rpc_client.proofs.Dispatches.{all_accepted, dispatch_got, said_taken}
 use Rattle.rpc_client.proofs.Feeds.{kept_by_log, message_got, part_got, part_same, stops, AreFaults}
 use Rattle.rpc_client.proofs.GotSteps.{take_kept, take_told, kept_ending, shown_ending}
-use Rattle.rpc_client.proofs.Numbers.{same_numbered}
+use Rattle.rpc_client.proofs.Numbers.{same_calls_are}
 use Rattle.rpc_client.proofs.Places.{take_stays, Stays}
 use Rattle.rpc_client.proofs.TableSteps.{found_id, same_calls}
 
@@ -56,7 +56,7 @@ start_got limits now ranges = record {
   limit = ranges.message.1;
   bytes = tt;
   kept = tt;
-  numbered = record { each = tt; apart = tt };
+  calls = record { callable = tt; each = tt; apart = tt };
   going = λ e. record { bodies = []; log = []; took = taken_start limits now; all = refl };
 }
 
@@ -69,7 +69,7 @@ shut_got c why got has = by c.link.cause refl
     by (Some old) e = has
     by None e =
         let going = has.going e in
-        stops (with_link c (closed_by c.link why)) got going.log why has.max has.limit has.bytes (all_accepted c got has.limit has.bytes going) (kept_by_log c got e has going) has.numbered refl
+        stops (with_link c (closed_by c.link why)) got going.log why has.max has.limit has.bytes (all_accepted c got has.limit has.bytes going) (kept_by_log c got e has going) has.calls refl
 
 -- ---- one row changes
 
@@ -114,7 +114,7 @@ row_got c got id row new link has found stays keeps max cause goes =
       kept = subst (λ n. Each (λ r. IsKept n (is_closed link) (responses_of r.id (accepted_of link.max (with_row new c.rows) got)) r) (with_row new c.rows)) (sym max)
           (subst (λ b. Each (λ r. IsKept m b (responses_of r.id (accepted_of link.max (with_row new c.rows) got)) r) (with_row new c.rows)) (sym (ap is_some cause))
           (subst (λ acc. Each (λ r. IsKept m (is_closed c.link) (responses_of r.id acc) r) (with_row new c.rows)) log_is all));
-      numbered = same_numbered (with_row new c.rows) c.rows calls has.numbered;
+      calls = same_calls_are (with_row new c.rows) c.rows calls has.calls;
       going = λ e. goes (has.going (sym cause ∙ e));
     }
 
@@ -275,7 +275,7 @@ link_got c got beat output has = record {
   limit = has.limit;
   bytes = has.bytes;
   kept = has.kept;
-  numbered = has.numbered;
+  calls = has.calls;
   going = λ e.
       (let going = has.going e in
       record {

@@ -134,11 +134,11 @@ rows_few m closed log (row ∷ rows) vs (here, kept) (callable, good) =
     omega (arith, rest, keeps, said, sum_by-cons row_nodes row rows, sum_by-cons (answers_to log) row rows)
 
 -- whatever bytes came: the values of all parts and endings that are kept have no more nodes together
-pub kept_nodes : (c : ClientState) (got : List ℕ) → HasGot c got → Each (λ row. IsCallable row.desc) c.rows → kept_count c.rows ≤ length got
-kept_nodes c got has good =
+pub kept_nodes : (c : ClientState) (got : List ℕ) → HasGot c got → kept_count c.rows ≤ length got
+kept_nodes c got has =
     let m = c.link.max in
     let all = stream_short m got (limit_few m has.limit) has.bytes in
     let (short, bytes) = accepted_short m (row_calls c.rows) (log_of m got) (length got) all in
-    let keeps = rows_few m (is_closed c.link) (accepted_of m c.rows got) c.rows bytes has.kept good in
-    let sent = answers_few (accepted_of m c.rows got) c.rows has.numbered.apart in
+    let keeps = rows_few m (is_closed c.link) (accepted_of m c.rows got) c.rows bytes has.kept has.calls.callable in
+    let sent = answers_few (accepted_of m c.rows got) c.rows has.calls.apart in
     omega (arith, short, keeps, sent)

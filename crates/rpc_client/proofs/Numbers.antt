@@ -1,12 +1,12 @@
--- The numbers of calls are those of rows with the same ids and procedures.
+-- Rows with the same ids and procedures are the same calls.
 use Rattle.std.proofs.Common.{◌≡◌, ◌≢◌, refl, sym, ap, ◌∙◌, subst, ℕ, ◌+◌, ℤ, Bool, true, false, not, if◌then◌else◌, List, [], ◌∷◌, ◌++◌, map, arith}
 use Rattle.std.specs.List.{count_by}
 use Rattle.std.proofs.lemmas.List.Sums.{sum_by-append}
 use Rattle.readers.specs.Reader.{Each}
 use Rattle.rpc_talk.specs.Parts.{is_tracked}
 use Rattle.rpc_talk.specs.Welcome.{Call}
-use Rattle.rpc_client.specs.Kept.{row_call, row_calls, HaveOwnIds, AreNumbered, IsNumberedBy}
-use Rattle.rpc_client.specs.Rows.{Row}
+use Rattle.rpc_client.specs.Kept.{row_call, row_calls, HaveOwnIds, AreCalls, IsNumberedBy}
+use Rattle.rpc_client.specs.Rows.{Row, IsCallable}
 use Rattle.rpc_client.specs.Tables.{is_answered, is_unanswered}
 
 count_cons : (p : Row → Bool) (row : Row) (rows : List Row) → count_by p (row ∷ rows) ≡ (if p row then 1 else 0) + count_by p rows
@@ -57,10 +57,19 @@ apart_same (a ∷ new) (b ∷ rows) is (here, apart) =
     let (same, desc, rest) = heads a b rows new is in
     (subst (λ i. Each (λ other. other.id ≢ i) new) (sym same) (differ_same b.id new rows rest here), apart_same new rows rest apart)
 
-pub same_numbered : (new rows : List Row) → row_calls new ≡ row_calls rows → AreNumbered rows → AreNumbered new
-same_numbered new rows is numbered = record {
+callable_same : (new rows : List Row) → row_calls new ≡ row_calls rows → Each (λ row. IsCallable row.desc) rows → Each (λ row. IsCallable row.desc) new
+callable_same [] [] is all = tt
+callable_same [] (row ∷ rows) is all = absurd cc
+callable_same (row ∷ new) [] is all = absurd cc
+callable_same (a ∷ new) (b ∷ rows) is (here, all) =
+    let (id, desc, rest) = heads a b rows new is in
+    (subst IsCallable (sym desc) here, callable_same new rows rest all)
+
+pub same_calls_are : (new rows : List Row) → row_calls new ≡ row_calls rows → AreCalls rows → AreCalls new
+same_calls_are new rows is calls = record {
+  callable = callable_same new rows is calls.callable;
   each = subst (λ t. Each (λ row. IsNumberedBy (is_tracked row.desc.kind) t (count_by is_unanswered new) row.id) new) (sym (count_same (λ b. b) new rows is))
       (subst (λ o. Each (λ row. IsNumberedBy (is_tracked row.desc.kind) (count_by is_answered rows) o row.id) new) (sym (count_same not new rows is))
-      (each_same (count_by is_answered rows) (count_by is_unanswered rows) new rows is numbered.each));
-  apart = apart_same new rows is numbered.apart;
+      (each_same (count_by is_answered rows) (count_by is_unanswered rows) new rows is calls.each));
+  apart = apart_same new rows is calls.apart;
 }

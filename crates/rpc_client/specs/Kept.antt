@@ -20,7 +20,7 @@ use Rattle.rpc_client.specs.declared.entry.Phase.{Phase}
 use Rattle.rpc_client.specs.declared.entry.Phase.TheVariants as phase
 use Rattle.rpc_client.specs.declared.entry.Took.{Took}
 use Rattle.rpc_client.specs.declared.entry.Took.TheVariants as took
-use Rattle.rpc_client.specs.Rows.{Row, took_of}
+use Rattle.rpc_client.specs.Rows.{Row, took_of, IsCallable}
 use Rattle.rpc_client.specs.Tables.{find_row, is_answered, is_unanswered}
 use Rattle.rpc_client.specs.Clients.{ClientState}
 
@@ -77,7 +77,9 @@ abbrev pub HaveOwnIds : List Row → Type 0
 HaveOwnIds [] = Unit {0}
 HaveOwnIds (row ∷ rows) = Each (λ other. other.id ≢ row.id) rows × HaveOwnIds rows
 
-pub record AreNumbered (rows : List Row) : Type 0 where
+-- the calls of a client: each has its number, an id of its own, and a procedure that can be called
+pub record AreCalls (rows : List Row) : Type 0 where
+  pub callable : Each (λ row. IsCallable row.desc) rows
   pub each : Each (λ row. IsNumberedBy (is_tracked row.desc.kind) (count_by is_answered rows) (count_by is_unanswered rows) row.id) rows
   pub apart : HaveOwnIds rows
 
@@ -98,7 +100,7 @@ pub record HasGot (c : ClientState) (got : List ℕ) : Type 0 where
   pub limit : c.link.max ≤ 2 ^ 30
   pub bytes : Each IsByte got
   pub kept : Each (λ row. IsKept c.link.max (is_closed c.link) (responses_of row.id (accepted_of c.link.max c.rows got)) row) c.rows
-  pub numbered : AreNumbered c.rows
+  pub calls : AreCalls c.rows
   pub going : c.link.cause ≡ None → IsGoing c got
 
 -- ---- what calls do to a client that got some bytes
