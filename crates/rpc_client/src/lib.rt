@@ -1,32 +1,34 @@
 //! The calling end of a connection.
 //!
-//! A [`Client`] owns no socket and no clock. Who has them drives it: a gateway that has a socket
-//! `link`, whose reads and writes it makes when it likes, goes round as here. Each call answers at
-//! once; what is refused changes nothing.
+//! A [`Client`] owns no socket and no clock. Who has them drives it, a gateway by its own loop, as
+//! here with a `socket` that gives what has come whenever something has, or a second has gone by.
+//! Each call answers at once; what is refused changes nothing.
 //!
 //! ```text
 //! let mut client = Client::new(alloc, Limits::usual(), clock.now())?;
 //! while client.cause().is_none() {
-//!     client.tick(clock.now())?; // a heartbeat, or the close of a silent connection
-//!     let count = client.take_out(&mut buffer);
-//!     link.write_all(&buffer[..count])?; // the header first, then queries
+//!     let piece = socket.read(&mut space)?;       // of any size, cut anywhere
+//!     let now = clock.now();
+//!     client.tick(now)?;                          // a heartbeat, or the close of a silent connection
 //!     if client.is_open() {
 //!         for (desc, query) in asked.take() {
-//!             waiting.push(client.dispatch(&desc, &query)?)?;
+//!             tickets.push(client.dispatch(&desc, &query)?)?;
 //!         }
 //!     }
-//!     let mut piece = link.read(&mut buffer)?; // of any size, wherever it ends
-//!     if piece.is_empty() {
-//!         client.end_of_input();
+//!     let count = client.take_out(&mut buffer);   // the header first, then queries
+//!     socket.write(&buffer[..count])?;
+//!     let mut at = 0;
+//!     while at < piece.len() && client.cause().is_none() {
+//!         at += client.feed(&piece[at..], now)?;  // one message at most
 //!     }
-//!     while !piece.is_empty() && client.cause().is_none() {
-//!         piece = &piece[client.feed(piece, clock.now())?..]; // one frame at most
-//!     }
-//!     for ticket in waiting.iter() {
-//!         answer(ticket, client.take(ticket)); // parts in order, and one ending
+//!     for ticket in &tickets {
+//!         answer(ticket, client.take(ticket));    // parts in order, and one ending
 //!     }
 //! }
 //! ```
+//!
+//! The test `a_gateway_calls_over_its_socket` (`src/tests/gateway.rt`) runs these steps over a socket
+//! in memory.
 #![tactic(auto)]
 
 mod asking;

@@ -4,10 +4,13 @@ ghost use Rattle.rpc_client.specs.Rows.{IsCallable};
 use super::*;
 use bp_num::Why;
 use bp_value::{Blob, OutOfMemory, Shape, Value};
+use rpc_frame::put_frame;
 use rpc_msg::{CloseCause, Ending, FeedError, Limits, MsgFault, Received, Ticket};
 use rpc_schema::{Kind, RpcDesc};
 use std::alloc::Global;
 use std::test::Fail;
+
+mod gateway;
 
 /// The frame of the header of an end that speaks version 1.
 const HEADER: [u8; 10] = [2, 0, 0, 0, 0, 0, 0, 0, 1, 1];
@@ -172,5 +175,77 @@ fn has_no_procedure_of_its_own(rt: HostRuntime) -> Result<(), Fail> {
     assert_eq!(rt; answer(&mut client, &query), Ok(()));
     assert_eq!(rt; output(&mut client, &mut bytes), 22);
     assert_eq!(rt; bytes[..22], NOPE[..]);
+    Ok(())
+}
+
+/// The frame of a query of 1024 bytes, whose name would stand in the answer to it.
+fn long_query(alloc: Global) -> Result<Vec<u8>, OutOfMemory> {
+    let mut body = Vec::new(alloc);
+    body.extend_from_slice(&[1, 0xFE, 0xF9, 3])?;
+    for _ in 0..1017 {
+        body.push(b'n')?;
+    }
+    body.extend_from_slice(&[0, 0, 0])?;
+    let mut frame = Vec::new(alloc);
+    put_frame(&body, &mut frame)?;
+    Ok(frame)
+}
+
+/// The error `answer too long` in its frame.
+const TOO_LONG: &[u8] = b"\x15\0\0\0\0\0\0\0\x02\x00\x01\x03\x00\x0Fanswer too long";
+
+#[test]
+fn says_that_its_answer_is_too_long(rt: HostRuntime) -> Result<(), Fail> {
+    let alloc = rt.alloc();
+    let limits = Limits {
+        max_message: 1024,
+        max_open: 1,
+        beat_every: 1,
+        beat_timeout: 10,
+    };
+    let mut client = Client::new(alloc, limits, 0)?;
+    let mut bytes = [0; 64];
+    assert_eq!(rt; output(&mut client, &mut bytes), 10);
+    assert!(rt; feed(&mut client, &HEADER));
+    assert!(rt; feed(&mut client, &long_query(alloc)?));
+    assert_eq!(rt; output(&mut client, &mut bytes), 29);
+    assert_eq!(rt; &bytes[..29], TOO_LONG);
+    Ok(())
+}
+
+/// Whether a whole piece is taken.
+fn feed(client: &mut Client, piece: &[u8]) -> bool {
+    matches!(client.feed(piece, 0), Ok(used) if used == piece.len())
+}
+
+/// Why the frame of a body closes a new client that has read a header.
+fn closed_by(alloc: Global, body: &[u8]) -> Result<Option<CloseCause>, Fail> {
+    let mut client = open(alloc, 8)?;
+    match answer(&mut client, body) {
+        Err(FeedError::Closed(cause)) => Ok(Some(cause)),
+        _ => Ok(None),
+    }
+}
+
+#[test]
+fn is_closed_by_what_is_no_message(rt: HostRuntime) -> Result<(), Fail> {
+    let alloc = rt.alloc();
+    let fault = MsgFault::Bad {
+        at: 18,
+        why: Why::Case,
+    };
+    assert_eq!(rt; closed_by(alloc, &[3])?, Some(CloseCause::BadMessage(fault)));
+    let fault = MsgFault::Cut { at: 18 };
+    assert_eq!(rt; closed_by(alloc, &[])?, Some(CloseCause::BadMessage(fault)));
+    let stranger = Some(CloseCause::UnknownId { id: 0 });
+    assert_eq!(rt; closed_by(alloc, &[2, 0, 0, 1, 0])?, stranger);
+    Ok(())
+}
+
+fn moves_to_a_thread<T: Send + Drop>(_value: T) {}
+
+#[test]
+fn a_client_moves_to_a_thread(rt: HostRuntime) -> Result<(), Fail> {
+    moves_to_a_thread(open(rt.alloc(), 8)?);
     Ok(())
 }

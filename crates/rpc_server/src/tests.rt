@@ -9,6 +9,9 @@ use rpc_schema::Schema;
 use std::alloc::Global;
 use std::test::Fail;
 
+mod gateway;
+mod limits;
+
 const SCHEMA: &str = "plain echo 1 both = string -> string\n\
     pipe each 1 both = int list -> int ! unit\n\
     oneway log 1 both = string\n\
@@ -59,12 +62,64 @@ fn open(alloc: Global, limits: Limits) -> Result<Server, Fail>
     }
 }
 
-/// What the frame of a body gives.
-fn fed(alloc: Global, server: &mut Server, body: &[u8]) -> Result<ServerFed, FeedError> {
+/// What a handler does to a query.
+#[derive(Clone, Copy)]
+enum Do<'a> {
+    Reply(&'a Value),
+    Fail(&'a [u8]),
+    Begin(&'a Value),
+    Item(&'a Value),
+    End,
+}
+
+/// What is told of a frame that comes.
+#[derive(Clone, Copy, PartialEq)]
+enum Told {
+    Nothing,
+    Asked { id: i64, place: usize },
+    Noted { id: i64, place: usize },
+    Stopped { id: i64 },
+    Closed(CloseCause),
+    OutOfMemory,
+}
+
+/// A turn of a conversation, and what has to come of it.
+#[derive(Clone, Copy)]
+enum Turn<'a> {
+    /// The frame of this body comes.
+    Comes(&'a [u8], Told),
+    /// A handler acts on the query of this id.
+    Acts(i64, Do<'a>, Result<(), ActError>),
+    /// Just the frames of these bodies go out.
+    Says(&'a [&'a [u8]]),
+}
+
+fn as_told(fed: Result<ServerFed, FeedError>) -> Told {
+    match fed {
+        Ok(fed) => match fed.arrival {
+            None => Told::Nothing,
+            Some(Arrival::Asked { id, place, .. }) => Told::Asked { id, place },
+            Some(Arrival::Noted { id, place, .. }) => Told::Noted { id, place },
+            Some(Arrival::Stopped { id }) => Told::Stopped { id },
+        },
+        Err(FeedError::Closed(cause)) => Told::Closed(cause),
+        Err(FeedError::OutOfMemory) => Told::OutOfMemory,
+    }
+}
+
+fn comes(alloc: Global, server: &mut Server, body: &[u8]) -> Result<Told, OutOfMemory> {
     let mut frame = Vec::new(alloc);
-    match put_frame(body, &mut frame) {
-        Ok(()) => server.feed(&frame, 0),
-        Err(OutOfMemory) => Err(FeedError::OutOfMemory),
+    put_frame(body, &mut frame)?;
+    Ok(as_told(server.feed(&frame, 0)))
+}
+
+fn acts(server: &mut Server, id: i64, what: &Do<'_>) -> Result<(), ActError> {
+    match what {
+        Do::Reply(value) => server.reply(id, value),
+        Do::Fail(text) => server.fail(id, text),
+        Do::Begin(value) => server.begin(id, value),
+        Do::Item(value) => server.item(id, value),
+        Do::End => server.end(id),
     }
 }
 
@@ -79,78 +134,49 @@ fn says(alloc: Global, server: &mut Server, bodies: &[&[u8]]) -> Result<bool, Ou
     Ok(&out[..count] == want.as_slice())
 }
 
+/// The place of the first turn of which something else came.
+fn first_odd(
+    alloc: Global,
+    server: &mut Server,
+    turns: &[Turn<'_>],
+) -> Result<Option<usize>, OutOfMemory> {
+    for (at, turn) in turns.iter().enumerate() {
+        let goes = match turn {
+            Turn::Comes(body, want) => comes(alloc, server, body)? == *want,
+            Turn::Acts(id, what, want) => acts(server, *id, what) == *want,
+            Turn::Says(bodies) => says(alloc, server, bodies)?,
+        };
+        if !goes {
+            return Ok(Some(at));
+        }
+    }
+    Ok(None)
+}
+
 fn text(alloc: Global, bytes: &[u8]) -> Result<Value, OutOfMemory> {
     Ok(Value::Text(Blob::from_slice(alloc, bytes)?))
 }
 
-fn is_asked(fed: &Result<ServerFed, FeedError>, id: i64, place: usize) -> bool {
-    match fed {
-        Ok(
-            ServerFed {
-                arrival: Some(
-                    Arrival::Asked {
-                        id: got,
-                        place: at,
-                        ..
-                    },
-                ),
-                ..
-            },
-        ) => *got == id && *at == place,
-        _ => false,
-    }
-}
-
-fn is_noted(fed: &Result<ServerFed, FeedError>, id: i64) -> bool {
-    match fed {
-        Ok(
-            ServerFed {
-                arrival: Some(Arrival::Noted { id: got, .. }),
-                ..
-            },
-        ) => *got == id,
-        _ => false,
-    }
-}
-
-fn is_stopped(fed: &Result<ServerFed, FeedError>, id: i64) -> bool {
-    match fed {
-        Ok(
-            ServerFed {
-                arrival: Some(Arrival::Stopped { id: got }),
-                ..
-            },
-        ) => *got == id,
-        _ => false,
-    }
-}
-
-fn is_quiet(fed: &Result<ServerFed, FeedError>) -> bool {
-    matches!(fed, Ok(ServerFed { arrival: None, .. }))
-}
-
-fn closes(fed: &Result<ServerFed, FeedError>, why: CloseCause) -> bool {
-    match fed {
-        Err(FeedError::Closed(cause)) => *cause == why,
-        _ => false,
-    }
-}
+const ASKED: Told = Told::Asked { id: 0, place: 0 };
 
 #[test]
 fn a_query_is_asked_and_answered(rt: HostRuntime) -> Result<(), Fail> {
     let alloc = rt.alloc();
     let mut server = open(alloc, Limits::usual())?;
-    assert!(rt; is_asked(&fed(alloc, &mut server, &ECHO), 0, 0));
     let hi = text(alloc, b"hi")?;
-    assert_eq!(rt; server.reply(2, &hi), Err(ActError::NoSuch));
-    assert_eq!(rt; server.begin(0, &hi), Err(ActError::WrongKind));
-    assert_eq!(rt; server.reply(0, &Value::Unit), Err(ActError::BadValue));
-    assert_eq!(rt; server.reply(0, &hi), Ok(()));
-    assert_eq!(rt; server.reply(0, &hi), Err(ActError::NoSuch));
-    assert!(rt; says(alloc, &mut server, &[REPLY])?);
-    assert!(rt; is_asked(&fed(alloc, &mut server, &ECHO), 0, 0));
-    assert_eq!(rt; server.fail(0, b"boom"), Ok(()));
-    assert!(rt; says(alloc, &mut server, &[BOOM])?);
+    let turns = [
+        Turn::Comes(&ECHO, ASKED),
+        Turn::Acts(2, Do::Reply(&hi), Err(ActError::NoSuch)),
+        Turn::Acts(0, Do::Begin(&hi), Err(ActError::WrongKind)),
+        Turn::Acts(0, Do::Reply(&Value::Unit), Err(ActError::BadValue)),
+        Turn::Acts(0, Do::Reply(&hi), Ok(())),
+        Turn::Acts(0, Do::Reply(&hi), Err(ActError::NoSuch)),
+        Turn::Says(&[REPLY]),
+        Turn::Comes(&ECHO, ASKED),
+        Turn::Acts(0, Do::Fail(b"boom"), Ok(())),
+        Turn::Says(&[BOOM]),
+    ];
+    assert_eq!(rt; first_odd(alloc, &mut server, &turns)?, None);
     Ok(())
 }
 
@@ -158,17 +184,19 @@ fn a_query_is_asked_and_answered(rt: HostRuntime) -> Result<(), Fail> {
 fn an_abort_stops_a_stream_that_has_begun(rt: HostRuntime) -> Result<(), Fail> {
     let alloc = rt.alloc();
     let mut server = open(alloc, Limits::usual())?;
-    assert!(rt; is_asked(&fed(alloc, &mut server, &EACH), 0, 1));
-    assert!(rt; is_quiet(&fed(alloc, &mut server, &ABORT)));
-    assert_eq!(rt; server.item(0, &Value::Num(1)), Err(ActError::NotBegun));
-    assert_eq!(rt; server.begin(0, &Value::Unit), Ok(()));
-    assert_eq!(rt; server.begin(0, &Value::Unit), Err(ActError::AlreadyBegun));
-    assert_eq!(rt; server.item(0, &Value::Num(1)), Ok(()));
-    let stopped = fed(alloc, &mut server, &ABORT);
-    assert!(rt; is_stopped(&stopped, 0));
-    assert_eq!(rt; server.item(0, &Value::Num(2)), Err(ActError::Stopped));
-    assert_eq!(rt; server.end(0), Err(ActError::NoSuch));
-    assert!(rt; says(alloc, &mut server, &ABORTED)?);
+    let turns = [
+        Turn::Comes(&EACH, Told::Asked { id: 0, place: 1 }),
+        Turn::Comes(&ABORT, Told::Nothing),
+        Turn::Acts(0, Do::Item(&Value::Num(1)), Err(ActError::NotBegun)),
+        Turn::Acts(0, Do::Begin(&Value::Unit), Ok(())),
+        Turn::Acts(0, Do::Begin(&Value::Unit), Err(ActError::AlreadyBegun)),
+        Turn::Acts(0, Do::Item(&Value::Num(1)), Ok(())),
+        Turn::Comes(&ABORT, Told::Stopped { id: 0 }),
+        Turn::Acts(0, Do::Item(&Value::Num(2)), Err(ActError::Stopped)),
+        Turn::Acts(0, Do::End, Err(ActError::NoSuch)),
+        Turn::Says(&ABORTED),
+    ];
+    assert_eq!(rt; first_odd(alloc, &mut server, &turns)?, None);
     Ok(())
 }
 
@@ -176,111 +204,69 @@ fn an_abort_stops_a_stream_that_has_begun(rt: HostRuntime) -> Result<(), Fail> {
 fn it_answers_by_itself(rt: HostRuntime) -> Result<(), Fail> {
     let alloc = rt.alloc();
     let mut server = open(alloc, Limits::usual())?;
-    assert!(rt; is_quiet(&fed(alloc, &mut server, ASK_MENU)));
-    assert!(rt; says(alloc, &mut server, &[MENU])?);
-    assert!(rt; is_quiet(&fed(alloc, &mut server, b"\x01\x04nope\x07\x00\x00")));
-    assert!(rt; says(alloc, &mut server, &[NOPE])?);
-    assert!(rt; is_quiet(&fed(alloc, &mut server, b"\x01\x04echo\x01\x00\x01\x05")));
-    assert!(rt; says(alloc, &mut server, &[UNREAD])?);
-    let noted = fed(alloc, &mut server, b"\x01\x03log\x01\x01\x02\x01n");
-    assert!(rt; is_noted(&noted, 1));
-    assert!(rt; is_quiet(&fed(alloc, &mut server, b"\x01\x03log\x01\x01\x00")));
-    assert!(rt; says(alloc, &mut server, &[])?);
+    let turns = [
+        Turn::Comes(ASK_MENU, Told::Nothing),
+        Turn::Says(&[MENU]),
+        Turn::Comes(b"\x01\x04nope\x07\x00\x00", Told::Nothing),
+        Turn::Says(&[NOPE]),
+        Turn::Comes(b"\x01\x04echo\x01\x00\x01\x05", Told::Nothing),
+        Turn::Says(&[UNREAD]),
+        Turn::Comes(
+            b"\x01\x03log\x01\x01\x02\x01n",
+            Told::Noted { id: 1, place: 2 },
+        ),
+        Turn::Comes(b"\x01\x03log\x01\x01\x00", Told::Nothing),
+        Turn::Says(&[]),
+    ];
+    assert_eq!(rt; first_odd(alloc, &mut server, &turns)?, None);
     Ok(())
 }
+
+/// Bodies that close a server, and why.
+const HOSTILE: [(&[u8], CloseCause); 3] = [
+    (&[2, 0, 0, 1, 0], CloseCause::UnknownId { id: 0 }),
+    (
+        &[3],
+        CloseCause::BadMessage(MsgFault::Bad {
+            at: 18,
+            why: Why::Case,
+        }),
+    ),
+    (&[], CloseCause::BadMessage(MsgFault::Cut { at: 18 })),
+];
 
 #[test]
 fn a_hostile_caller_closes_it(rt: HostRuntime) -> Result<(), Fail> {
     let alloc = rt.alloc();
-    let mut server = open(alloc, Limits::usual())?;
-    let unknown = fed(alloc, &mut server, &[2, 0, 0, 1, 0]);
-    assert!(rt; closes(&unknown, CloseCause::UnknownId { id: 0 }));
-    assert!(rt;
-        closes(
-            &fed(alloc, &mut server, &ECHO),
-            CloseCause::UnknownId { id: 0 }
-        )
-    );
-    assert_eq!(rt; server.end(0), Err(ActError::Closed));
-    let mut server = open(alloc, Limits::usual())?;
-    let fault = MsgFault::Bad {
-        at: 18,
-        why: Why::Case,
-    };
-    assert!(rt;
-        closes(
-            &fed(alloc, &mut server, &[3]),
-            CloseCause::BadMessage(fault)
-        )
-    );
-    let mut server = open(alloc, Limits::usual())?;
-    let fault = MsgFault::Cut { at: 18 };
-    assert!(rt; closes(&fed(alloc, &mut server, &[]), CloseCause::BadMessage(fault)));
-    let mut server = open(alloc, Limits::usual())?;
-    assert!(rt; is_asked(&fed(alloc, &mut server, &ECHO), 0, 0));
-    let twice = fed(alloc, &mut server, &ECHO);
-    assert!(rt; closes(&twice, CloseCause::DuplicateQuery { id: 0 }));
-    Ok(())
-}
-
-#[test]
-fn it_keeps_its_limits(rt: HostRuntime) -> Result<(), Fail> {
-    let alloc = rt.alloc();
-    let limits = Limits {
-        max_message: 1024,
-        max_open: 1,
-        beat_every: 1,
-        beat_timeout: 10,
-    };
-    let mut server = open(alloc, limits)?;
-    assert!(rt; is_asked(&fed(alloc, &mut server, &ECHO), 0, 0));
-    let long = text(alloc, &[0x61; 1020])?;
-    assert_eq!(rt;
-        server.reply(0, &long),
-        Err(ActError::TooLong { max: 1024 })
-    );
-    assert_eq!(rt;
-        server.fail(0, &[0x61; 1020]),
-        Err(ActError::TooLong { max: 1024 })
-    );
-    assert!(rt; says(alloc, &mut server, &[])?);
-    let second = fed(alloc, &mut server, b"\x01\x04echo\x01\x02\x01\x00");
-    assert!(rt; closes(&second, CloseCause::TooManyOpen { count: 1 }));
-    Ok(())
-}
-
-fn answer(server: &mut Server, arrival: Arrival) -> Result<(), ActError> {
-    match arrival {
-        Arrival::Asked { id, query, .. } => server.reply(id, &query),
-        _ => Ok(()),
-    }
-}
-
-/// A gateway's own loop hands over what its socket gave, and answers each call of `echo` with its
-/// own text.
-fn serve(server: &mut Server, got: &[u8]) -> Result<(), Fail> {
-    let mut at = 0;
-    for _ in 0..got.len() {
-        let Ok(fed) = server.feed(&got[at..], 0) else {
-            return Err(Fail::new("closed"));
-        };
-        at = at.saturating_add(fed.used).min(got.len());
-        if let Some(arrival) = fed.arrival {
-            answer(server, arrival)?;
-        }
+    for (body, cause) in &HOSTILE {
+        let mut server = open(alloc, Limits::usual())?;
+        let turns = [
+            Turn::Comes(body, Told::Closed(*cause)),
+            Turn::Comes(&ECHO, Told::Closed(*cause)),
+            Turn::Acts(0, Do::End, Err(ActError::Closed)),
+            Turn::Says(&[]),
+        ];
+        assert_eq!(rt; first_odd(alloc, &mut server, &turns)?, None);
     }
     Ok(())
 }
 
 #[test]
-fn a_gateway_serves_what_its_socket_gave(rt: HostRuntime) -> Result<(), Fail> {
+fn an_id_is_open_once(rt: HostRuntime) -> Result<(), Fail> {
     let alloc = rt.alloc();
     let mut server = open(alloc, Limits::usual())?;
-    let mut got = Vec::new(alloc);
-    put_frame(&ECHO, &mut got)?;
-    put_frame(&[0], &mut got)?;
-    put_frame(&ECHO, &mut got)?;
-    serve(&mut server, &got)?;
-    assert!(rt; says(alloc, &mut server, &[REPLY, REPLY])?);
+    let turns = [
+        Turn::Comes(&ECHO, ASKED),
+        Turn::Comes(&ECHO, Told::Closed(CloseCause::DuplicateQuery { id: 0 })),
+    ];
+    assert_eq!(rt; first_odd(alloc, &mut server, &turns)?, None);
+    Ok(())
+}
+
+fn moves_to_a_thread<T: Send + Drop>(_value: T) {}
+
+#[test]
+fn a_server_moves_to_a_thread(rt: HostRuntime) -> Result<(), Fail> {
+    moves_to_a_thread(open(rt.alloc(), Limits::usual())?);
     Ok(())
 }
