@@ -29,10 +29,10 @@ fn write_out(client: &mut Client, written: &mut Vec<u8>) -> Result<(), OutOfMemo
 
 /// Takes a piece message by message, until it is taken or closes the client.
 fn feed_all(client: &mut Client, piece: &[u8], now: u64) -> Result<(), FeedError> {
-    let mut at = 0;
+    let mut rest = piece;
     for _ in 0..piece.len() {
-        let used = client.feed(&piece[at..], now)?;
-        at = at.saturating_add(used).min(piece.len());
+        let used = client.feed(rest, now)?;
+        rest = rest.get(used..).unwrap_or_default();
     }
     Ok(())
 }

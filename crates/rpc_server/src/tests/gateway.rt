@@ -18,10 +18,10 @@ fn handle(server: &mut Server, arrival: Arrival) -> Result<(), ActError> {
 
 /// Takes a piece message by message, and has each arrival handled.
 fn feed_all(server: &mut Server, piece: &[u8], now: u64) -> Result<(), Fail> {
-    let mut at = 0;
+    let mut rest = piece;
     for _ in 0..piece.len() {
-        let fed = server.feed(&piece[at..], now)?;
-        at = at.saturating_add(fed.used).min(piece.len());
+        let fed = server.feed(rest, now)?;
+        rest = rest.get(fed.used..).unwrap_or_default();
         if let Some(arrival) = fed.arrival {
             handle(server, arrival)?;
         }
