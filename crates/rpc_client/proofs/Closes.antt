@@ -18,7 +18,7 @@ use Rattle.rpc_talk.specs.Welcome.{accepted}
 use Rattle.rpc_talk.proofs.Opening.{first_read, no_more, opened_log}
 use Rattle.rpc_talk.proofs.Placing.{bad_none}
 use Rattle.rpc_talk.proofs.StreamCauses.{no_frame_cause, none_before}
-use Rattle.rpc_end.specs.Ends.{EndState, EndsFrame, PassesLimit, closed_by, holding, unread}
+use Rattle.rpc_end.specs.Ends.{EndState, EndsFrame, PassesLimit, WouldTakeOf, closed_by, holding, unread}
 use Rattle.rpc_end.specs.Taken.{has_first, HasTaken}
 use Rattle.rpc_end.specs.Taking.{IsClosedBy}
 use Rattle.rpc_end.proofs.Taken.{ended_bodies, fault_front, limit_few, long_cause, unread_cause}
@@ -67,6 +67,18 @@ unread_log old got (head ∷ bs) log body why took is =
 
 -- ---- the client
 
+-- some bodies, and the same or one more, which is no header where it is the first
+abbrev pub AddsNoHeader : ℕ → List (List ℕ) → List (List ℕ) → Type 0
+AddsNoHeader m before now = (now ≡ before) ⊎ ((body : List ℕ) × (now ≡ before ++ body ∷ []) × (before ≡ [] → opens m body ≡ false))
+
+-- the first bytes of a piece, so many, close a client: their cause is the first fault of all bytes, and they add no message and no header
+pub record StopsAt (c : ClientState) (got piece : List ℕ) (why : CloseCause) (new : EndState) (used : ℕ) : Type 0 where
+  pub takes : WouldTakeOf c.link piece None used
+  pub has : HasGot (record c { link = new }) (got ++ take used piece)
+  pub log : log_of c.link.max (got ++ take used piece) ≡ log_of c.link.max got
+  pub bodies_are : AddsNoHeader c.link.max (bodies c.link.max got) (bodies c.link.max (got ++ take used piece))
+  pub fault : cause_of c.link.max (row_calls c.rows) (got ++ take used piece) ≡ Some why
+
 module _ (c : ClientState) (got piece : List ℕ) (open_ : c.link.cause ≡ None) (has : HasGot c got) (more : Each IsByte piece) where
   abbrev pub after : ℕ → List ℕ
   after used = got ++ take used piece
@@ -85,38 +97,64 @@ module _ (c : ClientState) (got piece : List ℕ) (open_ : c.link.cause ≡ None
       (subst (λ n. accepted_of n c.rows (after used) ≡ going.log) (sym max) (ap (accepted c.link.max (row_calls c.rows)) log_is ∙ going.all))
       (subst (λ n. AreKept n going.log c.rows) (sym max) (kept_by_log c got open_ has going)) has.calls refl
 
+  few_bodies : bodies c.link.max got ≡ going.bodies
+  few_bodies = (no_frame_cause c.link.max few got going.bodies c.link.held has.bytes going.took.bodies_are).1
+
+  before_log : log_of c.link.max got ≡ going.log
+  before_log = ap (log_in c.link.max) few_bodies ∙ opened_log c.link.max going.bodies going.log going.took.read
+
   -- a length that is too long adds no body
-  long_log : (n : ℕ) → Each IsByte (after (n + 1)) → PassesLimit c.link piece n → log_of c.link.max (after (n + 1)) ≡ going.log
-  long_log n bytes passes =
+  long_bodies : (n : ℕ) → Each IsByte (after (n + 1)) → PassesLimit c.link piece n → bodies c.link.max (after (n + 1)) ≡ going.bodies
+  long_bodies n bytes passes =
       let rest = c.link.held ++ take (n + 1) piece in
       let are = going.took.bodies_are in
       let cut : after (n + 1) ≡ frames going.bodies ++ rest =
       ap (λ s. s ++ take (n + 1) piece) are.whole ∙ append_assoc (frames going.bodies) c.link.held (take (n + 1) piece) in
       let fault = fault_front c.link.max c.link.held piece n passes in
       let rest_bytes : Each IsByte rest = each-rest IsByte (frames going.bodies) rest (subst (Each IsByte) cut bytes) in
-      let same : bodies c.link.max (after (n + 1)) ≡ going.bodies =
       bodies_are c.link.max few (after (n + 1)) going.bodies bytes
-      (record { rest = rest; whole = cut; short = are.short; over = none_before c.link.max few rest (length c.link.held + n) rest_bytes fault }) in
-      ap (log_in c.link.max) same ∙ opened_log c.link.max going.bodies going.log going.took.read
+      (record { rest = rest; whole = cut; short = are.short; over = none_before c.link.max few rest (length c.link.held + n) rest_bytes fault })
+
+  long_log : (n : ℕ) → Each IsByte (after (n + 1)) → PassesLimit c.link piece n → log_of c.link.max (after (n + 1)) ≡ going.log
+  long_log n bytes passes = ap (log_in c.link.max) (long_bodies n bytes passes) ∙ opened_log c.link.max going.bodies going.log going.took.read
+
+  body_bodies : (body : List ℕ) (used : ℕ) → Each IsByte (after used) → EndsFrame c.link piece body used → bodies c.link.max (after used) ≡ going.bodies ++ body ∷ []
+  body_bodies body used bytes ends =
+      (no_frame_cause c.link.max few (after used) (going.bodies ++ body ∷ []) [] bytes (ended_bodies c.link got piece body going.bodies used going.took.bodies_are ends)).1
 
   body_log : (body : List ℕ) (used : ℕ) (why : CloseCause) → Each IsByte (after used) → EndsFrame c.link piece body used → unread c.link body ≡ Some why
       → log_of c.link.max (after used) ≡ going.log
   body_log body used why bytes ends is =
-      ap (log_in c.link.max) (no_frame_cause c.link.max few (after used) (going.bodies ++ body ∷ []) [] bytes (ended_bodies c.link got piece body going.bodies used going.took.bodies_are ends)).1
-      ∙ unread_log c.link got going.bodies going.log body why going.took is
+      ap (log_in c.link.max) (body_bodies body used bytes ends) ∙ unread_log c.link got going.bodies going.log body why going.took is
+
+  -- a first body that closes the client is no header
+  unread_opens : (body : List ℕ) (why : CloseCause) → unread c.link body ≡ Some why → bodies c.link.max got ≡ [] → opens c.link.max body ≡ false
+  unread_opens body why is none =
+      let first : c.link.greeted ≡ false = going.took.greeted ∙ ap has_first (sym few_bodies ∙ none) in
+      no_opening c.link.max body why
+      (ap (λ b. if b then bad_message c.link.max (c.link.start + 8) body else header_cause (bad_header c.link.max body) None (header_in c.link.max body)) (sym first) ∙ is)
 
   -- whatever of a piece closes a client, so many bytes of it are taken, and it is the first fault of all
-  pub closed_got : ((n : ℕ) → Each IsByte (after n)) → (why : CloseCause) (new : EndState) → IsClosedBy c.link piece why new
-      → (used : ℕ) × HasGot (record c { link = new }) (after used) × (cause_of c.link.max (row_calls c.rows) (after used) ≡ Some why)
+  pub closed_got : ((n : ℕ) → Each IsByte (after n)) → (why : CloseCause) (new : EndState) → IsClosedBy c.link piece why new → (used : ℕ) × StopsAt c got piece why new used
   closed_got bytes why new (inl (n, passes, why_is, is)) = (
     n + 1,
-    subst (λ e. HasGot (record c { link = e }) (after (n + 1))) (sym is)
-        (closes (holding c.link [] (n + 1)) (n + 1) why refl (bytes (n + 1)) (long_log n (bytes (n + 1)) passes)),
-    long_cause c.link has.limit (row_calls c.rows) got piece has.bytes more going.bodies going.log going.took going.all n passes ∙ ap Some (sym why_is),
+    record {
+      takes = inr (inr (n, passes, refl));
+      has = subst (λ e. HasGot (record c { link = e }) (after (n + 1))) (sym is)
+          (closes (holding c.link [] (n + 1)) (n + 1) why refl (bytes (n + 1)) (long_log n (bytes (n + 1)) passes));
+      log = long_log n (bytes (n + 1)) passes ∙ sym before_log;
+      bodies_are = inl (long_bodies n (bytes (n + 1)) passes ∙ sym few_bodies);
+      fault = long_cause c.link has.limit (row_calls c.rows) got piece has.bytes more going.bodies going.log going.took going.all n passes ∙ ap Some (sym why_is);
+    },
   )
   closed_got bytes why new (inr (body, used, ends, is_unread, is)) = (
     used,
-    subst (λ e. HasGot (record c { link = e }) (after used)) (sym is)
-        (closes (holding c.link [] used) used why refl (bytes used) (body_log body used why (bytes used) ends is_unread)),
-    unread_cause c.link has.limit (row_calls c.rows) got piece has.bytes more going.bodies going.log going.took going.all body used ends why is_unread,
+    record {
+      takes = inl (body, ends);
+      has = subst (λ e. HasGot (record c { link = e }) (after used)) (sym is)
+          (closes (holding c.link [] used) used why refl (bytes used) (body_log body used why (bytes used) ends is_unread));
+      log = body_log body used why (bytes used) ends is_unread ∙ sym before_log;
+      bodies_are = inr (body, body_bodies body used (bytes used) ends ∙ ap (λ bs. bs ++ body ∷ []) (sym few_bodies), unread_opens body why is_unread);
+      fault = unread_cause c.link has.limit (row_calls c.rows) got piece has.bytes more going.bodies going.log going.took going.all body used ends why is_unread;
+    },
   )

@@ -100,7 +100,7 @@ taken_log e got bs log limit bytes took =
 pub all_accepted : (c : ClientState) (got : List ℕ) → c.link.max ≤ 2 ^ 30 → Each IsByte got → (going : IsGoing c got) → accepted_of c.link.max c.rows got ≡ going.log
 all_accepted c got limit bytes going = ap (accepted c.link.max (row_calls c.rows)) (taken_log c.link got going.bodies going.log limit bytes going.took) ∙ going.all
 
-no_call : (id : ℤ) (rows : List Row) → Each (λ row. row.id ≢ id) rows → find_row id rows ≡ None
+pub no_call : (id : ℤ) (rows : List Row) → Each (λ row. row.id ≢ id) rows → find_row id rows ≡ None
 no_call id [] differ = refl
 no_call id (row ∷ rows) (differs, differ) = by (int_eq row.id id) refl (no_call id rows differ)
   where

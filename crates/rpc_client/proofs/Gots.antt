@@ -73,7 +73,7 @@ shut_got c why got has = by c.link.cause refl
 
 -- ---- one row changes
 
-each_found : (P : Row → Type 0) (id : ℤ) (rows : List Row) (row : Row) → Each P rows → find_row id rows ≡ Some row → P row
+pub each_found : (P : Row → Type 0) (id : ℤ) (rows : List Row) (row : Row) → Each P rows → find_row id rows ≡ Some row → P row
 each_found P id [] row all found = absurd cc
 each_found P id (r ∷ rows) row (here, all) found = by (has_row_id id r) found (each_found P id rows row all)
   where
@@ -141,7 +141,7 @@ take_got c id answer new takes same got has = subst (λ x. HasGot x got) (sym sa
 
 -- ---- a feed
 
-all_bytes : (got piece : List ℕ) (n : ℕ) → Each IsByte got → Each IsByte piece → Each IsByte (got ++ take n piece)
+pub all_bytes : (got piece : List ℕ) (n : ℕ) → Each IsByte got → Each IsByte piece → Each IsByte (got ++ take n piece)
 all_bytes [] [] n here more = more_none n
   where
     more_none : (n : ℕ) → Each IsByte (take n [])
@@ -152,7 +152,7 @@ all_bytes [] (b ∷ piece) (suc n) here (byte, more) = (byte, all_bytes [] piece
 all_bytes (b ∷ got) piece n (byte, here) more = (byte, all_bytes got piece n here more)
 
 -- what has no cause has no fault
-fine : (c : ClientState) (got : List ℕ) → c.link.cause ≡ None → HasGot c got → cause_of c.link.max (row_calls c.rows) got ≡ None
+pub fine : (c : ClientState) (got : List ℕ) → c.link.cause ≡ None → HasGot c got → cause_of c.link.max (row_calls c.rows) got ≡ None
 fine c got open_ has =
     let going = has.going open_ in
     no_cause c.link.max (limit_few c.link.max has.limit) (row_calls c.rows) going.bodies going.log going.took.read going.all got c.link.held has.bytes going.took.bodies_are
@@ -172,8 +172,8 @@ passes_on old piece now (Ok used) new got more has ((open_, part), is) =
 passes_on old piece now (Err (feed.Closed why)) new got more has (inl (closed, same), is) =
     inl (closed, subst (λ x. HasGot x got) (sym (is ∙ ap (with_link old) same)) has)
 passes_on old piece now (Err (feed.Closed why)) new got more has (inr (open_, closes), is) =
-    let (used, gets, fault) = closed_got old got piece open_ has more (λ n. all_bytes got piece n has.bytes more) why new.link closes in
-    inr (used, subst (λ x. HasGot x (got ++ take used piece)) (sym is) gets, fault)
+    let (used, stops) = closed_got old got piece open_ has more (λ n. all_bytes got piece n has.bytes more) why new.link closes in
+    inr (used, subst (λ x. HasGot x (got ++ take used piece)) (sym is) stops.has, stops.fault)
 passes_on old piece now (Err feed.OutOfMemory) new got more has ((open_, same), is) =
     subst (λ x. HasGot x got) (sym (is ∙ ap (with_link old) same)) has
 
@@ -197,7 +197,7 @@ feed_got old piece now answer new got more has (inr one) = hears_one old piece n
 
 -- ---- an abort
 
-running : (row : Row) → abort_refusal row ≡ None → (row.handed ≡ false) × (row.ending ≡ None)
+pub running : (row : Row) → abort_refusal row ≡ None → (row.handed ≡ false) × (row.ending ≡ None)
 running row is = by row.handed row.ending is
   where
     by : (h : Bool) (e : Option Ending)

@@ -21,7 +21,7 @@ use Rattle.rpc_talk.specs.Welcome.{Call}
 use Rattle.rpc_talk.proofs.Accepting.{IsTaken}
 use Rattle.rpc_talk.proofs.Causing.{none_behind}
 
-one_why : (m : ℕ) (p : List ℕ) (b : ℕ) (v w : Why) → FrameWhy m p b v → FrameWhy m p b w → v ≡ w
+pub one_why : (m : ℕ) (p : List ℕ) (b : ℕ) (v w : Why) → FrameWhy m p b v → FrameWhy m p b w → v ≡ w
 one_why m p b v w (inl one) (inl two) = one.0 ∙ sym two.0
 one_why m p b v w (inl one) (inr (n, t, q, cut, is, never)) = absurd never
 one_why m p b v w (inr (n, t, q, cut, is, never)) two = absurd never
