@@ -1,0 +1,14 @@
+pub mod Lists
+pub mod Ties
+pub mod Same
+pub mod Sounds
+pub mod Few
+pub mod Once
+pub mod Takes
+pub mod Aborts
+pub mod Dispatched
+pub mod Heard
+pub mod Feeding
+pub mod Saying
+pub mod Counting
+pub mod Refused
