@@ -39,11 +39,11 @@ use Rattle.rpc_meeting.proofs.Owners.{IsGiven, IsOk}
 
 -- ---- the forms of a procedure can be read
 
-record AreRead (d : RpcDesc) : Type 0 where
-  query : IsRead (form_of d.query)
-  first : IsRead (form_of d.first)
-  item : IsRead (form_of d.item)
-  error : IsRead (form_of d.error)
+pub record AreRead (d : RpcDesc) : Type 0 where
+  pub query : IsRead (form_of d.query)
+  pub first : IsRead (form_of d.first)
+  pub item : IsRead (form_of d.item)
+  pub error : IsRead (form_of d.error)
 
 unit_read : IsRead (form_of shp.Unit)
 unfolding IsRead
@@ -69,7 +69,8 @@ found_is (x ∷ es) tag version e all found = by (is_entry tag version x) found 
     by true here later = let same : x ≡ e = cc in subst IsEntry same (All-head IsEntry x es all)
     by false there later = later there
 
-known_forms : (r : Common) (d : RpcDesc) → AreEntries r.entries → IsKnown r d → AreRead d
+-- those of a procedure that a client knows
+pub known_forms : (r : Common) (d : RpcDesc) → AreEntries r.entries → IsKnown r d → AreRead d
 known_forms r d entries (inl is) = subst AreRead (sym is) menu_forms
 known_forms r d entries (inr (e, found, same)) =
     subst AreRead same (desc_forms e.desc (found_is r.entries d.name d.version e entries.each found).desc)
