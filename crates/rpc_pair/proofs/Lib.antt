@@ -1,0 +1,16 @@
+pub mod Schemas
+pub mod Places
+pub mod AskReads
+pub mod Tables
+pub mod Calls
+pub mod Meets
+pub mod Hearing
+pub mod NewCalls
+pub mod Aborts
+pub mod Stops
+pub mod Arrivals
+pub mod ActStates
+pub mod ServedLines
+pub mod Acts
+pub mod MenuSame
+pub mod Starts
