@@ -60,9 +60,10 @@ desc_forms d is = record {
   error = good_read (form_of d.error) is.error;
 }
 
-found_is : (es : List Entry) (tag : List ℕ) (version : ℤ) (e : Entry) → All IsEntry es → line_named es tag version ≡ Some e → IsEntry e
-found_is [] tag version e all found = absurd cc
-found_is (x ∷ es) tag version e all found = by (is_entry tag version x) found (found_is es tag version e (All-tail IsEntry x es all))
+-- the line that is found is one of a schema
+pub line_entry : (es : List Entry) (tag : List ℕ) (version : ℤ) (e : Entry) → All IsEntry es → line_named es tag version ≡ Some e → IsEntry e
+line_entry [] tag version e all found = absurd cc
+line_entry (x ∷ es) tag version e all found = by (is_entry tag version x) found (line_entry es tag version e (All-tail IsEntry x es all))
   where
     by : (b : Bool) → (if b then Some x else line_named es tag version) ≡ Some e → (line_named es tag version ≡ Some e → IsEntry e)
         → IsEntry e
@@ -73,7 +74,7 @@ found_is (x ∷ es) tag version e all found = by (is_entry tag version x) found 
 pub known_forms : (r : Common) (d : RpcDesc) → AreEntries r.entries → IsKnown r d → AreRead d
 known_forms r d entries (inl is) = subst AreRead (sym is) menu_forms
 known_forms r d entries (inr (e, found, same)) =
-    subst AreRead same (desc_forms e.desc (found_is r.entries d.name d.version e entries.each found).desc)
+    subst AreRead same (desc_forms e.desc (line_entry r.entries d.name d.version e entries.each found).desc)
 
 -- ---- acts
 

@@ -14,3 +14,4 @@ pub mod ServedLines
 pub mod Acts
 pub mod MenuSame
 pub mod Starts
+pub mod Sendable
