@@ -15,3 +15,7 @@ pub mod Acts
 pub mod MenuSame
 pub mod Starts
 pub mod Sendable
+pub mod CallRows
+pub mod Held
+pub mod Dispatching
+pub mod Aborting

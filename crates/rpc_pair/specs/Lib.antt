@@ -1,2 +1,3 @@
 pub mod Rules
 pub mod Stands
+pub mod Callers
