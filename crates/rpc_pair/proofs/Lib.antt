@@ -19,3 +19,5 @@ pub mod CallRows
 pub mod Held
 pub mod Dispatching
 pub mod Aborting
+pub mod Downs
+pub mod LinkLaws

@@ -1,10 +1,10 @@
 -- What a message that comes to a server meets: what is so of the talk, as far as it came, and of what the client got of it.
-use Rattle.std.proofs.Common.{◌≡◌, sym, ap, ◌∙◌, subst, ◌-◌, ◌≤◌, List, [], ◌∷◌, ◌++◌, append_assoc}
+use Rattle.std.proofs.Common.{◌≡◌, sym, ap, ◌∙◌, subst, ◌-◌, ◌≤◌, List, [], ◌∷◌, ◌++◌, append_assoc, arith}
 use Rattle.rpc_msg.specs.declared.message.Message.{Message}
 use Rattle.rpc_meeting.specs.Talks.{Common, Talk, heard_up, waiting_count}
 use Rattle.rpc_meeting.specs.Worlds.{World, arrived, come, header_size}
 use Rattle.rpc_meeting.proofs.Carried.{AreCarried, carried_heard, next_each, IsUp}
-use Rattle.rpc_meeting.proofs.Goods.{IsGood, heard_all}
+use Rattle.rpc_meeting.proofs.Goods.{IsGood, heard_all, unfinished_less}
 use Rattle.rpc_meeting.proofs.Heard.{sound_heard}
 use Rattle.rpc_meeting.proofs.Lines.{most}
 use Rattle.rpc_meeting.proofs.Marks.{AreMarked, marks_heard}
@@ -48,3 +48,16 @@ module _ (r : Common) (t : Talk) (came rest got : List Message) (a : Message) (c
   -- what goes up is the same behind it
   pub same_ups : (heard_up r t a).ups ≡ t.ups
   same_ups = (heard_all r t (a ∷ [])).ups
+
+-- and behind the next message that the client got
+pub meets_down : (r : Common) (t : Talk) (came got rest : List Message) (a : Message) → Meets r t came got → got ++ a ∷ rest ≡ t.downs → Meets r t came (got ++ a ∷ [])
+meets_down r t came got rest a meets cut =
+    let less = unfinished_less (most r) got (a ∷ []) t.made in
+    record {
+      sound = meets.sound;
+      marks = meets.marks;
+      carried = meets.carried;
+      few = omega (arith, less, meets.few);
+      more = rest;
+      down = append_assoc got (a ∷ []) rest ∙ cut;
+    }
