@@ -21,3 +21,5 @@ pub mod Dispatching
 pub mod Aborting
 pub mod Downs
 pub mod LinkLaws
+pub mod Given
+pub mod Choices
