@@ -6,7 +6,7 @@ use Rattle.std.proofs.lemmas.List.{length-append, take-append-drop}
 use Rattle.std.proofs.Math.Seq.{take-append_seam}
 use Rattle.readers.specs.Reader.{Each, IsByte}
 use Rattle.readers.proofs.Readers.{each-front, each-rest}
-use Rattle.rpc_frame.specs.Streams.{AreBodies, AreWithin, bodies}
+use Rattle.rpc_frame.specs.Streams.{AreBodies, AreWithin}
 use Rattle.rpc_frame.proofs.StreamBodies.{begun_bodies, bodies_are}
 use Rattle.rpc_msg.specs.declared.message.Message.{Message}
 use Rattle.rpc_msg.specs.declared.message.Message.TheVariants as message
@@ -46,7 +46,7 @@ some_one a [] e = cc
 some_one a (b ∷ came) e = cc
 
 -- what came of a log is its beginning
-came_front : (log : List Message) (n : ℕ) → (rest : List Message) × (came_log log n ++ rest ≡ log)
+pub came_front : (log : List Message) (n : ℕ) → (rest : List Message) × (came_log log n ++ rest ≡ log)
 came_front log n = by (has_header n) (whole_prefix log (n - header_size))
   where
     by : (b : Bool) → ((rest : List Message) × (whole log (n - header_size) ++ rest ≡ log)) → (rest : List Message) × ((if b then whole log (n - header_size) else []) ++ rest ≡ log)
@@ -78,12 +78,12 @@ frames_same log n = by (tells_le header_size n)
         subst (AreAsMany log n) (sym e) (omega (arith, none))
 
 -- a piece, parted at a place
-parted : (got piece tail : List ℕ) (used : ℕ) → (got ++ take used piece) ++ (drop used piece ++ tail) ≡ got ++ (piece ++ tail)
+pub parted : (got piece tail : List ℕ) (used : ℕ) → (got ++ take used piece) ++ (drop used piece ++ tail) ≡ got ++ (piece ++ tail)
 parted got piece tail used =
     append_assoc got (take used piece) (drop used piece ++ tail)
     ∙ ap (λ s. got ++ s) (sym (append_assoc (take used piece) (drop used piece) tail) ∙ ap (λ s. s ++ tail) (take-append-drop used piece))
 
-parted_bytes : (got piece : List ℕ) (used : ℕ) → Each IsByte (got ++ piece) → Each IsByte (got ++ take used piece)
+pub parted_bytes : (got piece : List ℕ) (used : ℕ) → Each IsByte (got ++ piece) → Each IsByte (got ++ take used piece)
 parted_bytes got piece used bytes =
     each-front IsByte (got ++ take used piece) (drop used piece)
     (subst (Each IsByte) (sym (append_assoc got (take used piece) (drop used piece) ∙ ap (λ s. got ++ s) (take-append-drop used piece))) bytes)
@@ -113,15 +113,17 @@ module _ (r : Common) (is : IsOfSchema r) (log : List Message) (within : AreWith
     given_came e bs came max took =
         sym (taken_log e got bs came (omega (arith, max, is.limits.message.1)) bytes took) ∙ (ap (λ m. log_of m got) max ∙ given_log)
 
-    -- so are its bodies, and it has read a header where that came
-    pub given_bodies : (e : EndState) (bs : List (List ℕ)) (came : List Message) → e.max ≡ most r → HasTaken e got bs came → bs ≡ came_bodies log (length got)
-    given_bodies e bs came max took =
-        let (held, are) = bodies_here in
-        let small : e.max < 256 ^ 8 = limit_few e.max (omega (arith, max, is.limits.message.1)) in
-        sym (bodies_are e.max small got bs bytes (begun_bodies e.max small got bs e.held took.bodies_are))
-        ∙ (ap (λ m. bodies m got) max
-        ∙ bodies_are (most r) few got (came_bodies log (length got)) bytes (begun_bodies (most r) few got (came_bodies log (length got)) held are))
+    -- the bodies are those that came
+    pub given_are : (bs : List (List ℕ)) (held : List ℕ) → AreBodies (most r) got bs held → bs ≡ came_bodies log (length got)
+    given_are bs held are =
+        let (rest, front) = bodies_here in
+        sym (bodies_are (most r) few got bs bytes (begun_bodies (most r) few got bs held are))
+        ∙ bodies_are (most r) few got (came_bodies log (length got)) bytes (begun_bodies (most r) few got (came_bodies log (length got)) rest front)
 
+    pub given_bodies : (e : EndState) (bs : List (List ℕ)) (came : List Message) → e.max ≡ most r → HasTaken e got bs came → bs ≡ came_bodies log (length got)
+    given_bodies e bs came max took = given_are bs e.held (subst (λ m. AreBodies m got bs e.held) max took.bodies_are)
+
+    -- and an end has read a header where that came
     pub given_greeted : (e : EndState) (bs : List (List ℕ)) (came : List Message) → e.max ≡ most r → HasTaken e got bs came → e.greeted ≡ has_header (length got)
     given_greeted e bs came max took = took.greeted ∙ (ap has_first (given_bodies e bs came max took) ∙ by (has_header (length got)))
       where

@@ -23,3 +23,5 @@ pub mod Downs
 pub mod LinkLaws
 pub mod Given
 pub mod Choices
+pub mod ServerFeeds
+pub mod FeedMoments

@@ -93,7 +93,7 @@ module _ (r : Common) (n : ℕ) (side : Side) (now : ℕ) (e : EndState) (s : Li
 
   -- ---- a message was heard, or the header
 
-  moment_now : moment e.beat now ≡ now
+  pub moment_now : moment e.beat now ≡ now
   moment_now = omega (arith, s.seen)
 
   pub heard_stands : (more : ℕ) → has_header (n + more) ≡ true → LinkStands r (n + more) (record { cause = side.cause; heard = now; sent = side.sent }) now (heard e now)
