@@ -25,3 +25,4 @@ pub mod Given
 pub mod Choices
 pub mod ServerFeeds
 pub mod FeedMoments
+pub mod ClientFeeds
