@@ -15,6 +15,7 @@ use Rattle.rpc_meeting.specs.Talks.{Common, Dispatch, Served, with_answer, find_
 use Rattle.rpc_meeting.specs.Worlds.{World, arrived, is_shut, set_talk}
 use Rattle.rpc_meeting.proofs.Asking.{each_find, if_good}
 use Rattle.rpc_meeting.proofs.Calls.{IsCall, IsKnown, IsLine, asks_of}
+use Rattle.rpc_meeting.proofs.Carried.{asked_range, carried_acted, carried_told}
 use Rattle.rpc_meeting.proofs.Goods.{IsGood, good_talk}
 use Rattle.rpc_meeting.proofs.Lines.{most, owed_at}
 use Rattle.rpc_meeting.proofs.Look.{find_key, some_is}
@@ -63,14 +64,15 @@ module _ (r : Common) (ok : IsOk r) (w : World) (g : IsGood r w) where
             (sound_acted r w.talk (arrived w) g.sound q act own_query going
             (timely r ok q act known (subst (λ x. IsGiven (most r) x act) (sym desc_is) given) going (ap (λ (x : RpcDesc). suits act x.kind) desc_is ∙ fits) time
             (not_long (may_be_long act) (is_short (most r) (response q.id (answer_by q.desc act))) e)))
-            (marks_acted r w.talk (arrived w) g.marks q own_query act handles) g.few
+            (marks_acted r w.talk (arrived w) g.marks q own_query act handles)
+            (carried_acted r w.talk g.carried q act (asked_range r q.id w.talk.ups _ _ g.carried.ups call.asks_are) (not_long (may_be_long act) (is_short (most r) (response q.id (answer_by q.desc act))) e)) g.few
 
     good_told : (q : Served) → find_query d.id w.talk.queries ≡ Some q → is_stopped q ≡ true → IsGood r (set_talk w (told_stopped w.talk q.id))
     good_told q here stops =
         let key : q.id ≡ d.id = find_key query_key d.id w.talk.queries q here in
         good_talk r w g (told_stopped w.talk q.id) ([], sym (append-nil w.talk.ups)) ([], sym (append-nil w.talk.downs))
         (sound_told r w.talk (arrived w) g.sound q (ap (λ i. find_query i w.talk.queries) key ∙ here))
-        (marks_told r w.talk (arrived w) g.marks q (ap (λ i. find_query i w.talk.queries) key ∙ here) stops) g.few
+        (marks_told r w.talk (arrived w) g.marks q (ap (λ i. find_query i w.talk.queries) key ∙ here) stops) (carried_told r w.talk g.carried q.id) g.few
 
     good_query : (o : Option Served) → find_query d.id w.talk.queries ≡ o → IsGood r (act_query r w act o).world
     good_query None here = g

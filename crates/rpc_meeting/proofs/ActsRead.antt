@@ -39,11 +39,11 @@ use Rattle.rpc_meeting.proofs.Owners.{IsGiven, IsOk}
 
 -- ---- the forms of a procedure can be read
 
-record AreRead (d : RpcDesc) : Type 0 where
-  query : IsRead (form_of d.query)
-  first : IsRead (form_of d.first)
-  item : IsRead (form_of d.item)
-  error : IsRead (form_of d.error)
+pub record AreRead (d : RpcDesc) : Type 0 where
+  pub query : IsRead (form_of d.query)
+  pub first : IsRead (form_of d.first)
+  pub item : IsRead (form_of d.item)
+  pub error : IsRead (form_of d.error)
 
 unit_read : IsRead (form_of shp.Unit)
 unfolding IsRead
@@ -60,19 +60,21 @@ desc_forms d is = record {
   error = good_read (form_of d.error) is.error;
 }
 
-found_is : (es : List Entry) (tag : List ℕ) (version : ℤ) (e : Entry) → All IsEntry es → line_named es tag version ≡ Some e → IsEntry e
-found_is [] tag version e all found = absurd cc
-found_is (x ∷ es) tag version e all found = by (is_entry tag version x) found (found_is es tag version e (All-tail IsEntry x es all))
+-- the line that is found is one of a schema
+pub line_entry : (es : List Entry) (tag : List ℕ) (version : ℤ) (e : Entry) → All IsEntry es → line_named es tag version ≡ Some e → IsEntry e
+line_entry [] tag version e all found = absurd cc
+line_entry (x ∷ es) tag version e all found = by (is_entry tag version x) found (line_entry es tag version e (All-tail IsEntry x es all))
   where
     by : (b : Bool) → (if b then Some x else line_named es tag version) ≡ Some e → (line_named es tag version ≡ Some e → IsEntry e)
         → IsEntry e
     by true here later = let same : x ≡ e = cc in subst IsEntry same (All-head IsEntry x es all)
     by false there later = later there
 
-known_forms : (r : Common) (d : RpcDesc) → AreEntries r.entries → IsKnown r d → AreRead d
+-- those of a procedure that a client knows
+pub known_forms : (r : Common) (d : RpcDesc) → AreEntries r.entries → IsKnown r d → AreRead d
 known_forms r d entries (inl is) = subst AreRead (sym is) menu_forms
 known_forms r d entries (inr (e, found, same)) =
-    subst AreRead same (desc_forms e.desc (found_is r.entries d.name d.version e entries.each found).desc)
+    subst AreRead same (desc_forms e.desc (line_entry r.entries d.name d.version e entries.each found).desc)
 
 -- ---- acts
 

@@ -1,15 +1,20 @@
 -- Dispatches and aborts keep what is so of a world.
-use Rattle.std.proofs.Common.{◌≡◌, refl, sym, ap, ◌∙◌, subst, ℕ, suc, ◌+◌, ◌-◌, ◌≤◌, ◌<◌, ℤ, Bool, true, false, not, ◌&&◌, if◌then◌else◌, List, [], ◌∷◌, ◌++◌, map, filter, length, nat_le, int_lt, arith, ◌⊎◌, inl, inr}
+use Rattle.std.proofs.Common.{◌≡◌, refl, sym, ap, ◌∙◌, subst, ℕ, suc, ◌+◌, ◌-◌, ◌*◌, ◌^◌, ◌≤◌, ◌<◌, ℤ, pos, Bool, true, false, not, ◌&&◌, if◌then◌else◌, List, [], ◌∷◌, ◌++◌, map, filter, length, nat_le, int_lt, arith, ◌⊎◌, inl, inr}
 use Rattle.std.specs.Prelude.{Option, Some, None}
 use Rattle.std.specs.List.{find}
 use Rattle.std.specs.Option.{is_some}
 use Rattle.std.specs.Str.{bytes_eq}
 use Rattle.std.specs.Ordering.{int_eq}
+use Rattle.std.proofs.lemmas.Bool.{ltb-false}
 use Rattle.std.proofs.lemmas.Bool.Decides.{Decides-int_eq}
 use Rattle.std.proofs.lemmas.List.{append-nil}
 use Rattle.std.proofs.lemmas.Slice.Eq.{bytes_eq-Decides}
 use Rattle.readers.specs.Reader.{Each}
+use Rattle.bp_value.specs.declared.shape.Shape.TheVariants as shp
+use Rattle.bp_value.specs.Fits.{Fits, InRange}
 use Rattle.bp_value.specs.Form.{form_of}
+use Rattle.bp_value.proofs.Fitted.{range_is}
+use Rattle.bp_value.proofs.Forms.{form_of-Unit}
 use Rattle.bp_value.specs.declared.value.Value.{Value}
 use Rattle.bp_value.specs.declared.value.Value.TheVariants as val
 use Rattle.rpc_msg.specs.declared.message.Message.{Message}
@@ -20,9 +25,10 @@ use Rattle.rpc_talk.specs.Acts.{is_short}
 use Rattle.rpc_talk.specs.Parts.{Held, cut_ending, cut_parts, is_ended, is_stream, is_tracked}
 use Rattle.rpc_meeting.specs.Menus.{best_version, called_versions, is_called, listings_told}
 use Rattle.rpc_meeting.specs.Steps.{Stepped, AlreadyEnded, Closed, IdsSpent, NotBegun, NotOpen, NotStream, TooLong, TooManyOpen, abort_held, abort_made, ask_entry, best_by, best_entry, dispatch, dispatch_value, done, find_label, last_id, new_dispatch, refused, unless_taken}
-use Rattle.rpc_meeting.specs.Talks.{Common, Dispatch, with_abort, abort_of, cut_at, with_dispatch, line_named, find_made, find_query, is_entry, is_nil, is_tracked_dispatch, waits_still, new_id, parts_in, query_of, received, waiting_count}
+use Rattle.rpc_meeting.specs.Talks.{Common, Dispatch, with_abort, abort_of, cut_at, with_dispatch, line_named, find_made, find_query, is_entry, is_nil, is_tracked_dispatch, waits_still, new_id, one_ways_of, parts_in, query_of, received, sort_number, tracked_of, waiting_count}
 use Rattle.rpc_meeting.specs.Worlds.{World, arrived, come, has_header, header_size, is_shut, set_talk}
 use Rattle.rpc_meeting.proofs.Calls.{IsCall, IsKnown, IsLine, asks_of, has_begun}
+use Rattle.rpc_meeting.proofs.Carried.{asked_range, carried_aborted, carried_dispatched}
 use Rattle.rpc_meeting.proofs.Filters.{answers_join}
 use Rattle.rpc_meeting.proofs.Goods.{IsGood, good_talk}
 use Rattle.rpc_meeting.proofs.Lines.{most}
@@ -106,10 +112,33 @@ unfinished_cut m come id n (x ∷ made) = by (waits_still m come x) (unfinished_
     by true e = ap suc e
     by false e = e
 
+-- ---- ids and values
+
+not_not : (b : Bool) → not b ≡ false → b ≡ true
+not_not true e = refl
+not_not false e = absurd cc
+
+pos_range : (n : ℕ) → int_lt last_id (pos n) ≡ false → InRange 62 (pos n)
+pos_range n given = (range_is 62 (pos n)).1 (omega (arith, ltb-false (2 ^ 61) n given))
+
+-- an id that is given has 63 bits
+given_range : (made : List Dispatch) (d : Dispatch) → d.id ≡ new_id made d.desc.kind → int_lt last_id d.id ≡ false → InRange 62 d.id
+given_range made d numbered given = subst (InRange 62) (sym numbered) (by (is_tracked d.desc.kind) (ap (int_lt last_id) (sym numbered) ∙ given))
+  where
+    by : (b : Bool) → int_lt last_id (sort_number b made) ≡ false → InRange 62 (sort_number b made)
+    by true e = pos_range (2 * tracked_of made) e
+    by false e = pos_range (2 * one_ways_of made + 1) e
+
+-- the value that asks for the menu is of its shape
+unit_fits : (m : ℕ) → Fits m (form_of shp.Unit) val.Unit
+unfolding Fits
+unit_fits m = subst (λ f. Fits m f val.Unit) (sym form_of-Unit) refl
+
 module _ (r : Common) (ok : IsOk r) (w : World) (g : IsGood r w) where
   -- ---- a dispatch is made
 
-  module _ (d : Dispatch) (v : Value) (known : IsKnown r d.desc) (uncut : d.cut ≡ None) (numbered : d.id ≡ new_id w.talk.made d.desc.kind) where
+  module _ (d : Dispatch) (v : Value) (known : IsKnown r d.desc) (uncut : d.cut ≡ None) (numbered : d.id ≡ new_id w.talk.made d.desc.kind)
+      (fits : Fits (most r) (form_of d.desc.query) v) where
     few_now : (is_tracked d.desc.kind && nat_le r.limits.max_open (waiting_count (most r) (come w) w.talk.made)) ≡ false
         → waiting_count (most r) (come w) (w.talk.made ++ d ∷ []) ≤ r.limits.max_open
     few_now room = by (is_tracked d.desc.kind) refl room
@@ -126,35 +155,39 @@ module _ (r : Common) (ok : IsOk r) (w : World) (g : IsGood r w) where
             space (inl (e, full)) le = absurd (no_true (sym e ∙ room))
             space (inr (e, some)) le = omega (arith, some, le)
 
-    good_dispatched : (is_tracked d.desc.kind && nat_le r.limits.max_open (waiting_count (most r) (come w) w.talk.made)) ≡ false → IsGood r (set_talk w (with_dispatch w.talk d v))
-    good_dispatched room =
+    good_dispatched : is_short (most r) (query_of d v) ≡ true → int_lt last_id d.id ≡ false
+        → (is_tracked d.desc.kind && nat_le r.limits.max_open (waiting_count (most r) (come w) w.talk.made)) ≡ false → IsGood r (set_talk w (with_dispatch w.talk d v))
+    good_dispatched short given room =
         let (rest, cut) = whole_prefix w.talk.ups (w.up - header_size) in
         good_talk r w g (with_dispatch w.talk d v) (query_of d v ∷ [], refl) ([], sym (append-nil w.talk.downs))
-        (sound_dispatched r w.talk (arrived w) rest cut g.sound d v known uncut numbered (λ id. ok.calls d.desc id v known)) g.marks (few_now room)
+        (sound_dispatched r w.talk (arrived w) rest cut g.sound d v known uncut numbered (λ id. ok.calls d.desc id v known)) g.marks
+        (carried_dispatched r w.talk g.carried d v known (given_range w.talk.made d numbered given) fits short) (few_now room)
 
     pub good_dispatch : IsGood r (dispatch r w d v).world
     good_dispatch =
         if_good r (is_shut w.client) (refused w Closed) _ (λ e. g) (λ e.
         if_good r (not (has_header w.got)) (refused w NotOpen) _ (λ e. g) (λ e.
-        if_good r (not (is_short (most r) (query_of d v))) (refused w TooLong) _ (λ e. g) (λ e.
+        if_good r (not (is_short (most r) (query_of d v))) (refused w TooLong) _ (λ e. g) (λ short.
         if_good r (is_tracked d.desc.kind && nat_le r.limits.max_open (waiting_count (most r) (come w) w.talk.made)) (refused w TooManyOpen) _ (λ e. g) (λ room.
-        if_good r (int_lt last_id d.id) (refused w IdsSpent) (done (set_talk w (with_dispatch w.talk d v))) (λ e. g) (λ e. good_dispatched room)))))
+        if_good r (int_lt last_id d.id) (refused w IdsSpent) (done (set_talk w (with_dispatch w.talk d v))) (λ e. g)
+        (λ given. good_dispatched (not_not (is_short (most r) (query_of d v)) short) given room)))))
 
-  good_value : (d : Dispatch) (o : Option Value) → IsKnown r d.desc → d.cut ≡ None → d.id ≡ new_id w.talk.made d.desc.kind → IsGood r (dispatch_value r w d o).world
-  good_value d None known uncut numbered = g
-  good_value d (Some v) known uncut numbered = good_dispatch d v known uncut numbered
+  good_value : (d : Dispatch) (text : List ℕ) (o : Option Value) → r.value (form_of d.desc.query) text ≡ o → IsKnown r d.desc → d.cut ≡ None
+      → d.id ≡ new_id w.talk.made d.desc.kind → IsGood r (dispatch_value r w d o).world
+  good_value d text None read known uncut numbered = g
+  good_value d text (Some v) read known uncut numbered = good_dispatch d v known uncut numbered (ok.value (form_of d.desc.query) text v read)
 
   good_entry : (label text tag : List ℕ) (version : ℤ) (o : Option Entry) → line_named r.entries tag version ≡ o → IsGood r (ask_entry r w label text o).world
   good_entry label text tag version None here = g
   good_entry label text tag version (Some e) here =
       if_good r (is_called e.side) (dispatch_value r w (new_dispatch w label e.desc) (r.value (form_of e.desc.query) text)) _
-      (λ called. good_value (new_dispatch w label e.desc) (r.value (form_of e.desc.query) text) (inr (e, entry_named r.entries tag version e here, refl)) refl refl) (λ e. g)
+      (λ called. good_value (new_dispatch w label e.desc) text (r.value (form_of e.desc.query) text) refl (inr (e, entry_named r.entries tag version e here, refl)) refl refl) (λ e. g)
 
   pub good_ask : (label text tag : List ℕ) (version : ℤ) → IsGood r (ask_entry r w label text (line_named r.entries tag version)).world
   good_ask label text tag version = good_entry label text tag version (line_named r.entries tag version) refl
 
   pub good_menu : (label : List ℕ) → IsGood r (dispatch r w (new_dispatch w label menu_description) val.Unit).world
-  good_menu label = good_dispatch (new_dispatch w label menu_description) val.Unit (inl refl) refl refl
+  good_menu label = good_dispatch (new_dispatch w label menu_description) val.Unit (inl refl) refl refl (unit_fits (most r))
 
   pub good_best : (label name text : List ℕ) (o : Option Value) → IsGood r (best_by r w label name text o).world
   good_best label name text None = g
@@ -197,6 +230,7 @@ module _ (r : Common) (ok : IsOk r) (w : World) (g : IsGood r w) where
     good_aborted n ending stream parts =
         good_talk r w g (with_abort w.talk d n) (abort_of d ∷ [], refl) ([], sym (append-nil w.talk.downs))
         (sound_aborted r w.talk (arrived w) g.sound d n own (not_cut ending) stream (begun_down ending parts) (ok.aborts d.desc d.id call.known stream)) g.marks
+        (carried_aborted r w.talk g.carried d n call.known (asked_range r d.id w.talk.ups _ _ g.carried.ups call.asks_are) stream)
         (subst (λ k. k ≤ r.limits.max_open) (sym (unfinished_cut (most r) (come w) d.id n w.talk.made)) g.few)
 
     good_held : IsGood r (abort_held r w d h).world
@@ -206,10 +240,6 @@ module _ (r : Common) (ok : IsOk r) (w : World) (g : IsGood r w) where
         if_good r (not (is_stream d.desc.kind)) (refused w NotStream) _ (λ e. g) (λ stream.
         if_good r (is_nil h.parts) (refused w NotBegun) (done (set_talk w (with_abort w.talk d (length h.parts)))) (λ e. g) (λ parts.
         good_aborted (length h.parts) ending (not_not (is_stream d.desc.kind) stream) parts))))
-      where
-        not_not : (b : Bool) → not b ≡ false → b ≡ true
-        not_not true e = refl
-        not_not false e = absurd cc
 
   pub good_abort : (label : List ℕ) (o : Option Dispatch) → find_label label w.talk.made ≡ o → IsGood r (abort_made r w o).world
   good_abort label None here = g

@@ -12,6 +12,7 @@ use Rattle.rpc_talk.specs.Acts as acts
 use Rattle.rpc_talk.specs.Parts.{Fate, Goes_on, Ends, Broken, goes_on, is_ended, parts_of}
 use Rattle.rpc_meeting.specs.Talks.{Common, Dispatch, Served, Talk, Answerer, Menu, Nobody, Listener, Handler, with_answer, asked_by, find_query, heard_up, is_abort_query, waits_still, is_tracked_dispatch, menu_answer, nobody_answer, answerer, parts_in, stopped, stop_query, stops_one, waiting_count}
 use Rattle.rpc_meeting.specs.Worlds.{World, Side, Reason, JournalFull, arrived, boundary, come, down_piece, full_cause, has_header, header_size, flying, is_shut, journal, set_client, set_now, set_server, set_talk, took_bytes, total, up_piece, up_talk, whole}
+use Rattle.rpc_meeting.proofs.Carried.{AreCarried, carried_all}
 use Rattle.rpc_meeting.proofs.Filters.{answers_join}
 use Rattle.rpc_meeting.proofs.Heard.{sound_heard}
 use Rattle.rpc_meeting.proofs.Lines.{most}
@@ -123,6 +124,7 @@ unfinished_less m before more made = filter_less (waits_still m (before ++ more)
 pub record IsGood (r : Common) (w : World) : Type 0 where
   pub sound : IsSound r w.talk (arrived w)
   pub marks : AreMarked r w.talk (arrived w)
+  pub carried : AreCarried r w.talk
   pub few : waiting_count (most r) (come w) w.talk.made ≤ r.limits.max_open
   pub up : w.up ≤ header_size + total w.talk.ups
   pub down : w.down ≤ header_size + total w.talk.downs
@@ -141,14 +143,15 @@ arrived_same log more n le = whole_log_grows log more (n - header_size) (omega (
 module _ (r : Common) (w : World) (g : IsGood r w) where
   -- the talk goes on
   pub good_talk : (t : Talk) → Lengthens w.talk.ups t.ups → Lengthens w.talk.downs t.downs → IsSound r t (arrived w) → AreMarked r t (arrived w)
-      → waiting_count (most r) (come w) t.made ≤ r.limits.max_open → IsGood r (set_talk w t)
-  good_talk t (mu, ups) (md, downs) sound marks few =
+      → AreCarried r t → waiting_count (most r) (come w) t.made ≤ r.limits.max_open → IsGood r (set_talk w t)
+  good_talk t (mu, ups) (md, downs) sound marks carried few =
       let came : whole t.ups (w.up - header_size) ≡ arrived w = ap (λ l. whole l (w.up - header_size)) ups ∙ arrived_same w.talk.ups mu w.up g.up in
       let down_few : w.got ≤ header_size + total w.talk.downs = omega (arith, g.down, g.got) in
       let came_down : whole t.downs (w.got - header_size) ≡ come w = ap (λ l. whole l (w.got - header_size)) downs ∙ arrived_same w.talk.downs md w.got down_few in
       record {
         sound = subst (IsSound r t) (sym came) sound;
         marks = subst (AreMarked r t) (sym came) marks;
+        carried = carried;
         few = subst (λ c. waiting_count (most r) c t.made ≤ r.limits.max_open) (sym came_down) few;
         up = omega (arith, g.up, ap total ups, total_join w.talk.ups mu);
         down = omega (arith, g.down, ap total downs, total_join w.talk.downs md);
@@ -159,13 +162,13 @@ module _ (r : Common) (w : World) (g : IsGood r w) where
 
   -- an end closes, or another moment comes
   pub good_client : (s : Side) → (is_shut s ≡ false → is_shut w.client ≡ false) → IsGood r (set_client w s)
-  good_client s opens = record { sound = g.sound; marks = g.marks; few = g.few; up = g.up; down = g.down; got = g.got; taken = λ e. g.taken (opens e); journal = g.journal }
+  good_client s opens = record { sound = g.sound; marks = g.marks; carried = g.carried; few = g.few; up = g.up; down = g.down; got = g.got; taken = λ e. g.taken (opens e); journal = g.journal }
 
   pub good_server : (s : Side) → IsGood r (set_server w s)
-  good_server s = record { sound = g.sound; marks = g.marks; few = g.few; up = g.up; down = g.down; got = g.got; taken = g.taken; journal = g.journal }
+  good_server s = record { sound = g.sound; marks = g.marks; carried = g.carried; few = g.few; up = g.up; down = g.down; got = g.got; taken = g.taken; journal = g.journal }
 
   pub good_now : (n : ℕ) → IsGood r (set_now w n)
-  good_now n = record { sound = g.sound; marks = g.marks; few = g.few; up = g.up; down = g.down; got = g.got; taken = g.taken; journal = g.journal }
+  good_now n = record { sound = g.sound; marks = g.marks; carried = g.carried; few = g.few; up = g.up; down = g.down; got = g.got; taken = g.taken; journal = g.journal }
 
   -- ---- a piece goes up
 
@@ -183,6 +186,7 @@ module _ (r : Common) (w : World) (g : IsGood r w) where
       record {
         sound = subst (IsSound r (up_talk r w n)) came sound;
         marks = subst (AreMarked r (up_talk r w n)) came (marks_all r w.talk (arrived w) fresh rest ok cut g.sound g.marks);
+        carried = carried_all r w.talk (arrived w) fresh rest cut g.carried;
         few = subst (λ c. waiting_count (most r) c (up_talk r w n).made ≤ r.limits.max_open) (sym came_down)
             (subst (λ made. waiting_count (most r) (come w) made ≤ r.limits.max_open) (sym heard.made) g.few);
         up = omega (arith, bytes, ap total heard.ups);
@@ -235,6 +239,7 @@ module _ (r : Common) (w : World) (g : IsGood r w) where
       piece took why heard sent_to more few small all = record {
         sound = g.sound;
         marks = g.marks;
+        carried = g.carried;
         few = come_more took more;
         up = g.up;
         down = omega (arith, le, g.down);

@@ -10,6 +10,7 @@ pub mod Heard
 pub mod Comes
 pub mod Whole
 pub mod Few
+pub mod Carried
 pub mod Timely
 pub mod Goods
 pub mod Moves

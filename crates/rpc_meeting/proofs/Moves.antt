@@ -6,6 +6,7 @@ use Rattle.rpc_msg.specs.declared.message.Message.TheVariants as message
 use Rattle.rpc_meeting.specs.Steps.{moved_bytes, move_down, move_up}
 use Rattle.rpc_meeting.specs.Talks.{Common, down_beat, up_beat}
 use Rattle.rpc_meeting.specs.Worlds.{World, Reason, Late, arrived, close_side, down_piece, down_pieces, has_header, header_size, flying, is_shut, is_due, is_late, sent_at, set_client, set_now, set_server, set_talk, tick_client, tick_server, total, up_piece, up_pieces, whole}
+use Rattle.rpc_meeting.proofs.Carried.{carried_down_beat, carried_up_beat}
 use Rattle.rpc_meeting.proofs.Goods.{IsGood, good_client, good_down, good_now, good_server, good_talk, good_up, heard_all}
 use Rattle.rpc_meeting.proofs.Look.{no_true}
 use Rattle.rpc_meeting.proofs.Owners.{IsOk}
@@ -78,11 +79,13 @@ module _ (r : Common) (w : World) (g : IsGood r w) where
 
   pub good_up_beat : IsGood r (set_talk w (up_beat w.talk))
   good_up_beat =
-      good_talk r w g (up_beat w.talk) (message.Heartbeat ∷ [], refl) ([], sym (append-nil w.talk.downs)) (sound_up_beat r w.talk _ g.sound) g.marks g.few
+      good_talk r w g (up_beat w.talk) (message.Heartbeat ∷ [], refl) ([], sym (append-nil w.talk.downs)) (sound_up_beat r w.talk _ g.sound) g.marks
+      (carried_up_beat r w.talk g.carried) g.few
 
   pub good_down_beat : IsGood r (set_talk w (down_beat w.talk))
   good_down_beat =
-      good_talk r w g (down_beat w.talk) ([], sym (append-nil w.talk.ups)) (message.Heartbeat ∷ [], refl) (sound_down_beat r w.talk _ g.sound) g.marks g.few
+      good_talk r w g (down_beat w.talk) ([], sym (append-nil w.talk.ups)) (message.Heartbeat ∷ [], refl) (sound_down_beat r w.talk _ g.sound) g.marks
+      (carried_down_beat r w.talk g.carried) g.few
 
 -- ---- moments
 

@@ -20,6 +20,7 @@ first_good : (r : Common) → IsGood r first_world
 first_good r = record {
   sound = record { lines = λ id. (refl, refl, refl); own = tt; numbered = tt; apart = tt };
   marks = λ id q here. absurd (no_some q here);
+  carried = record { ups = tt; downs = tt };
   few = omega arith;
   up = omega arith;
   down = omega arith;

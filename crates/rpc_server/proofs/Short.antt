@@ -16,7 +16,7 @@ either_short true xs ys h k = h
 either_short false xs ys h k = k
 
 -- no number has more than nine bytes
-nat_short : (n : ℕ) → length (written_nat n) ≤ 9
+pub nat_short : (n : ℕ) → length (written_nat n) ≤ 9
 nat_short n =
     either_short (nat_lt n 128) (n ∷ []) _ (omega arith)
     (either_short (nat_lt n (2 ^ 16)) (254 ∷ little_endian 2 n) _ (omega (arith, length-little_endian 2 n))
@@ -29,7 +29,7 @@ wide_short z =
     (either_short (nat_lt (extent z) (2 ^ 31)) (253 ∷ signed_bytes 4 z) (252 ∷ signed_bytes 8 z) (omega (arith, length-signed_bytes 4 z))
     (omega (arith, length-signed_bytes 8 z)))
 
-int_short : (z : ℤ) → length (written_int z) ≤ 9
+pub int_short : (z : ℤ) → length (written_int z) ≤ 9
 int_short (pos n) = either_short (nat_lt n 128) (n ∷ []) (wide_int (pos n)) (omega arith) (wide_short (pos n))
 int_short (negsuc n) =
     either_short (nat_lt n 128) (255 ∷ signed_bytes 1 (negsuc n)) (wide_int (negsuc n)) (omega (arith, length-signed_bytes 1 (negsuc n))) (wide_short (negsuc n))

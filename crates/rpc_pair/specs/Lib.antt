@@ -1,0 +1,4 @@
+pub mod Rules
+pub mod Stands
+pub mod Callers
+pub mod Links
