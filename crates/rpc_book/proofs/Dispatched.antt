@@ -76,7 +76,7 @@ module _ (c : ClientState) (made : List Made) (got : List ℕ) (is : IsBook c ma
   is_fresh open_ =
       let id = next_call_id d.kind c.rows in
       let going = is.has.going open_ in
-      let none : find_row id c.rows ≡ None = no_call id c.rows (fresh c.rows (is_tracked d.kind) is.has.numbered) in
+      let none : find_row id c.rows ≡ None = no_call id c.rows (fresh c.rows (is_tracked d.kind) is.has.calls) in
       let no_row : find_call id (row_calls c.rows) ≡ None = found_call id c.rows ∙ ap (option_map row_call) none in
       record {
         unused = by_found c made got is id (λ x r. r ≡ None → x ≡ None) (λ n m e. refl) (λ one row of found missing e. absurd (let line : Some row ≡ None = e in cc)) none;

@@ -170,7 +170,7 @@ module _ (c : ClientState) (made : List Made) (got : List ℕ) (is : IsBook c ma
   heard_cause message.Heartbeat = refl
   heard_cause (message.Query q) = refl
   heard_cause (message.Response r) =
-      by (rows_heard c.link.max c.rows r.id r.result) (rows_hear c.link.max going.log c.rows r.id r.result is.has.numbered.apart (kept_by_log c got open_ is.has going))
+      by (rows_heard c.link.max c.rows r.id r.result) (rows_hear c.link.max going.log c.rows r.id r.result is.has.calls.apart (kept_by_log c got open_ is.has going))
     where
       by : (x : Result (List Row) CloseCause) → Hears c.link.max c.rows going.log r.id r.result x → (by_rows c.rows x).cause ≡ closes_by c.link.max (row_calls c.rows) going.log (message.Response r)
       by (Ok rows) (welcome, calls, kept) = sym (ap (closes_if (message.Response r)) welcome)

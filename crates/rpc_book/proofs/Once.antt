@@ -14,7 +14,7 @@ use Rattle.rpc_end.specs.Taking.{IsPartTaken}
 use Rattle.rpc_end.proofs.Taken.{limit_few}
 use Rattle.rpc_client.specs.Clients.{ClientState}
 use Rattle.rpc_client.specs.Kept.{HasGot}
-use Rattle.rpc_client.proofs.Closes.{one_why}
+use Rattle.rpc_talk.proofs.StreamCauses.{one_why}
 
 -- how far a reader comes among so many bytes
 abbrev reach : Outcome ℕ Why (List ℕ) → ℕ → ℕ

@@ -61,6 +61,6 @@ module _ (c : ClientState) (made : List Made) (got : List ℕ) (is : IsBook c ma
     bytes = is.has.bytes;
     made = each_both (λ row. IsKept c.link.max (is_closed c.link) (responses_of row.id (client_accepted c.link.max c.rows got)) row) (IsSoundBooked (book_of c made got))
         (sound_same c made got is) made c.rows is.dispatches is.has.kept;
-    ids = ids_both made c.rows is.dispatches is.has.numbered.apart;
+    ids = ids_both made c.rows is.dispatches is.has.calls.apart;
     going = no_fault;
   }

@@ -36,7 +36,7 @@ kept_got r c got come limits has log all =
       rows = subst (λ xs. Each (λ row. IsKept (most r) (is_closed c.link) (responses_of row.id xs) row) c.rows)
           (ap (accepted (most r) (row_calls c.rows)) log ∙ all)
           (subst (λ m. Each (λ row. IsKept m (is_closed c.link) (responses_of row.id (accepted m (row_calls c.rows) (log_of m got))) row) c.rows) max has.kept);
-      apart = has.numbered.apart;
+      apart = has.calls.apart;
     }
 
 -- ---- what a dispatch received
