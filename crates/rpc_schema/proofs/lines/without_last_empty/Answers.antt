@@ -2,7 +2,7 @@
 use Rattle.std.proofs.lemmas.Bool.{eqb-true, eqb-false}
 use Rattle.std.proofs.Common.{sym, ◌∙◌}
 use Rattle.rpc_schema.proofs.TextParts.{slices_cut, slices_whole}
-use Rattle.rpc_schema.proofs.reading.without_last_empty.Goals as goal
+use Rattle.rpc_schema.proofs.lines.without_last_empty.Goals as goal
 
 pub returns-then-is_empty : goal.returns-then-is_empty
 returns-then-is_empty c =

@@ -3,7 +3,7 @@ use Rattle.std.proofs.Common.{rules, nat_eq}
 use Rattle.std.proofs.lemmas.Iterator.Consumers.{map_from_collect}
 use Rattle.std.proofs.lemmas.Iterator.Splits.{YieldsList-from_slice_split}
 use Rattle.rpc_schema.specs.TextLines.{line_end}
-use Rattle.rpc_schema.proofs.reading.parts_of.Goals as goal
+use Rattle.rpc_schema.proofs.lines.parts_of.Goals as goal
 
 pub returns : goal.returns
 returns c =

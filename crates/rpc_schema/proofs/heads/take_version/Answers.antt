@@ -3,7 +3,7 @@ use Rattle.std.proofs.Common.{subst, ℤ}
 use Rattle.std.specs.Option.{MatchOption}
 use Rattle.rpc_schema.specs.SchemaLines.{SpellsVersion}
 use Rattle.rpc_schema.proofs.PartLaws.{word_takes}
-use Rattle.rpc_schema.proofs.heads.version.Goals as goal
+use Rattle.rpc_schema.proofs.heads.take_version.Goals as goal
 
 pub returns : goal.returns
 returns c =

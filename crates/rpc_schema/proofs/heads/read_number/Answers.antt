@@ -3,8 +3,8 @@ use Rattle.std.proofs.Common.{rules, arith, ◌≡◌, ◌<◌, ◌^◌, ap, sub
 use Rattle.std.specs.Fmt.{decimal}
 use Rattle.std.proofs.lemmas.Fmt.{parse-decimal, IsAscii-decimal}
 use Rattle.std.proofs.lemmas.Str.{IsUtf8-from_ascii}
-use Rattle.rpc_schema.proofs.heads.number.Goals as goal
-use Rattle.rpc_schema.proofs.heads.number.Goals.{else-n-max-via-then-n-max+else-eq, else-n-max-via-else-n-max}
+use Rattle.rpc_schema.proofs.heads.read_number.Goals as goal
+use Rattle.rpc_schema.proofs.heads.read_number.Goals.{else-n-max-via-then-n-max+else-eq, else-n-max-via-else-n-max}
 
 pub returns-in_default : goal.returns-in_default
 returns-in_default c n le e =
