@@ -5,5 +5,6 @@ pub mod Distinct
 pub mod TextLaws
 pub mod GoodLines
 pub mod Choices
+pub mod KeptLines
 pub mod ReadingSteps
 pub mod MenuValues

@@ -25,12 +25,12 @@ use Rattle.rpc_schema.proofs.PartLaws.{IsSure, sure_next, sure_last, sure_lacks,
 
 -- ---- words
 
-some_is : {A : Type 0} (a b : A) → Some a ≡ Some b → a ≡ b
+pub some_is : {A : Type 0} (a b : A) → Some a ≡ Some b → a ≡ b
 some_is a b e = cc
 
 -- what a word stands for is read back from it
 module _ {A : Type 0} (spell : A → List ℕ) (back : List ℕ → Option A) (is : (a : A) → back (spell a) ≡ Some a) where
-  one_spelled : (a b : A) (w : List ℕ) → w ≡ spell a → w ≡ spell b → a ≡ b
+  pub one_spelled : (a b : A) (w : List ℕ) → w ≡ spell a → w ≡ spell b → a ≡ b
   one_spelled a b w x y = some_is a b (sym (is a) ∙ (ap back (sym x ∙ y) ∙ is b))
 
 abbrev kind_back : List ℕ → Option Kind
@@ -83,10 +83,10 @@ sure_kind = sure_word (λ k w. w ≡ kind_word k) (one_spelled kind_word kind_ba
 sure_side : IsSure IsSide (Lacks IsSide)
 sure_side = sure_word (λ d w. w ≡ side_word d) (one_spelled side_word side_back side_is)
 
-sure_version : IsSure IsVersionPart (Lacks IsVersionPart)
+pub sure_version : IsSure IsVersionPart (Lacks IsVersionPart)
 sure_version = sure_word SpellsVersion one_version
 
-sure_name : IsSure IsNamePart (Lacks IsNamePart)
+pub sure_name : IsSure IsNamePart (Lacks IsNamePart)
 sure_name = sure_lacks IsNamePart (λ a b s u v x y.
     (ap (λ (p : List ℕ × List ℕ). p.0) (sym x.0.1 ∙ y.0.1), ap (λ (p : List ℕ × List ℕ). p.1) (sym x.0.1 ∙ y.0.1)))
 
@@ -199,7 +199,7 @@ sure_behaviour d good = record { once = once; apart = apart } where
   apart a s u x (inr is) (inr (c, t, at, fails)) = (consts at.0.1).apart a s u x is (inr (c, t, at, fails))
 
 -- where nothing is left no word stands
-no_word : (s : List ℕ) → after_blanks s ≡ [] → front_word s ≡ []
+pub no_word : (s : List ℕ) → after_blanks s ≡ [] → front_word s ≡ []
 no_word s e = ap (λ r. (span in_name r).0) e
 
 sure_tail : (d : RpcDesc) → (d.kind ≡ Plain → IsGood (form_of d.first)) → IsSure (IsTail d) (TailRefused d)

@@ -1,12 +1,12 @@
 -- What the reading of a schema keeps from line to line, and what its refusals mean.
 use Rattle.std.proofs.Common.{◌≡◌, refl, sym, ap, ◌∙◌, subst, Bool, true, false, not, cond, ◌||◌, ℕ, ◌+◌, ◌<◌, ◌≤◌, List, [], ◌∷◌, ◌++◌, length, take, drop, get_or, map, inl, inr, Bor, arith}
-use Rattle.std.specs.List.{All, AllZip, Contains, filter, list_any}
+use Rattle.std.specs.List.{All, AllZip, Contains, list_any}
 use Rattle.std.specs.BTreeSet.{BTreeSet, contains}
 use Rattle.std.specs.Ordering.{eq_by_cmp, is_eq}
 use Rattle.std.proofs.lemmas.Cmp.{eq_by_cmp_equiv, then_total, on_total, nat_list_cmp_total, int_cmp_total}
 use Rattle.std.proofs.lemmas.List.Folds.{list_any-append}
 use Rattle.std.proofs.lemmas.List.{map-append, take_more, get_or-map, length-map, length-take-le, take_all}
-use Rattle.std.proofs.lemmas.List.Elements.{All-push, filter-append}
+use Rattle.std.proofs.lemmas.List.Elements.{All-push}
 use Rattle.bp_value.specs.Names.{IsDistinct}
 use Rattle.bp_value.proofs.Distinct.{none_distinct}
 use Rattle.rpc_schema.specs.declared.desc.Entry.{Entry}
@@ -14,63 +14,27 @@ use Rattle.rpc_schema.specs.declared.desc.Listing.{Listing}
 use Rattle.rpc_schema.specs.declared.error.SchemaError.{SchemaError}
 use Rattle.rpc_schema.specs.declared.error.SchemaError.TheVariants as error
 use Rattle.rpc_schema.specs.Entries.{IsEntry, listing_of, listing_cmp}
-use Rattle.rpc_schema.specs.TextLines.{Numbered, numbered_from, is_skipped, text_lines, lines_read}
-use Rattle.rpc_schema.specs.SchemaTexts.{IsEntryLine, AreEntryLines, ReachesLine, IsBadSchemaLine, IsTwice, RefusesSchema}
+use Rattle.rpc_schema.specs.TextLines.{Numbered, is_skipped, lines_kept}
+use Rattle.rpc_schema.specs.SchemaTexts.{IsEntryLine, AreEntryLines, ReachesLine, IsBadSchemaLine, IsTwice, RefusesLines}
 use Rattle.rpc_schema.specs.Reading.{slices, Marks, FollowsLine, RefusesNext}
 use Rattle.rpc_schema.proofs.Distinct.{distinct_push, any_contains, contains_any}
 use Rattle.rpc_schema.proofs.TextParts.{slices_split}
-
--- ---- numbered lines
-
-abbrev says : Numbered → Bool
-says l = not (is_skipped l.bytes)
-
-abbrev pub kept : List (List ℕ) → List Numbered
-kept ls = filter says (numbered_from 1 ls)
-
-numbered_append : (n : ℕ) (xs ys : List (List ℕ)) → numbered_from n (xs ++ ys) ≡ numbered_from n xs ++ numbered_from (n + length xs) ys
-numbered_append n [] ys = let same : n ≡ n + 0 = omega arith in ap (λ m. numbered_from m ys) same
-numbered_append n (x ∷ xs) ys =
-    let same : (n + 1) + length xs ≡ n + length (x ∷ xs) = omega arith in
-    ap (λ rest. record { number = n; bytes = x } ∷ rest)
-    (numbered_append (n + 1) xs ys ∙ ap (λ m. numbered_from (n + 1) xs ++ numbered_from m ys) same)
-
-kept_append : (xs ys : List (List ℕ)) → kept (xs ++ ys) ≡ kept xs ++ filter says (numbered_from (1 + length xs) ys)
-kept_append xs ys = ap (filter says) (numbered_append 1 xs ys) ∙ filter-append says (numbered_from 1 xs) (numbered_from (1 + length xs) ys)
-
--- a line that says nothing, and one that says something
-first_out : (l : Numbered) (ls : List Numbered) → is_skipped l.bytes ≡ true → filter says (l ∷ ls) ≡ filter says ls
-first_out l ls skipped = rw skipped refl
-
-first_in : (l : Numbered) (ls : List Numbered) → is_skipped l.bytes ≡ false → filter says (l ∷ ls) ≡ l ∷ filter says ls
-first_in l ls read = rw read refl
+use Rattle.rpc_schema.proofs.KeptLines.{kept_skip, kept_read}
 
 -- ---- one line more
+
+abbrev pub kept : List (List ℕ) → List Numbered
+kept ls = lines_kept 1 ls
 
 module _ (xs : List (List ℕ)) (l : List ℕ) (i : ℕ) (count : length xs ≡ i) where
   at : 1 + length xs ≡ i + 1
   at = omega (arith, count)
 
-  kept_skip : is_skipped l ≡ true → kept (xs ++ l ∷ []) ≡ kept xs
-  kept_skip skipped =
-      kept_append xs (l ∷ []) ∙ (ap (λ n. kept xs ++ filter says (numbered_from n (l ∷ []))) at
-      ∙ ap (λ rest. kept xs ++ rest) (first_out (record { number = i + 1; bytes = l }) [] skipped)) ∙ nothing (kept xs)
-    where
-      nothing : (ks : List Numbered) → ks ++ [] ≡ ks
-      nothing [] = refl
-      nothing (k ∷ ks) = ap (λ rest. k ∷ rest) (nothing ks)
-
-  kept_read : (ys : List (List ℕ)) → is_skipped l ≡ false
-      → kept (xs ++ l ∷ ys) ≡ kept xs ++ record { number = i + 1; bytes = l } ∷ filter says (numbered_from (i + 1 + 1) ys)
-  kept_read ys read =
-      kept_append xs (l ∷ ys) ∙ (ap (λ n. kept xs ++ filter says (numbered_from n (l ∷ ys))) at
-      ∙ ap (λ rest. kept xs ++ rest) (first_in (record { number = i + 1; bytes = l }) (numbered_from (i + 1 + 1) ys) read))
-
   pub lines_go : (old new : List Entry) → FollowsLine (i + 1) l old new → AreEntryLines old (kept xs) → AreEntryLines new (kept (xs ++ l ∷ []))
   lines_go old new (inl (skipped, same)) good =
-      subst (λ ks. AreEntryLines new ks) (sym (kept_skip skipped)) (subst (λ es. AreEntryLines es (kept xs)) (sym same) good)
+      subst (λ ks. AreEntryLines new ks) (sym (kept_skip 1 xs l (i + 1) at skipped)) (subst (λ es. AreEntryLines es (kept xs)) (sym same) good)
   lines_go old new (inr (read, (e, is, entry, spelled, other))) good =
-      subst (λ ks. AreEntryLines new ks) (sym (kept_read [] read)) (subst (λ es. AreEntryLines es (kept xs ++ record { number = i + 1; bytes = l } ∷ [])) (sym is)
+      subst (λ ks. AreEntryLines new ks) (sym (kept_read 1 xs l (i + 1) at [] read)) (subst (λ es. AreEntryLines es (kept xs ++ record { number = i + 1; bytes = l } ∷ [])) (sym is)
       (record {
         lines = zip_push old (kept xs) good.lines;
         apart = subst (λ ls. IsDistinct ls) (sym (map-append listing_of old (e ∷ []))) (distinct_push (map listing_of old) (listing_of e) good.apart other);
@@ -88,49 +52,52 @@ module _ (xs : List (List ℕ)) (l : List ℕ) (i : ℕ) (count : length xs ≡ 
       → ReachesLine (kept (xs ++ l ∷ ys)) (record { number = i + 1; bytes = l })
   reaches ys es read good = record {
     before = kept xs;
-    behind = filter says (numbered_from (i + 1 + 1) ys);
-    cut = kept_read ys read;
+    behind = lines_kept (i + 1 + 1) ys;
+    cut = kept_read 1 xs l (i + 1) at ys read;
     entries = es;
     good = good;
   }
 
-  refused_line : (text : List ℕ) (ys : List (List ℕ)) (es : List Entry) (e : SchemaError) → lines_read text ≡ kept (xs ++ l ∷ ys) → AreEntryLines es (kept xs)
-      → RefusesNext (i + 1) l es e → RefusesSchema text e
-  refused_line text ys es (error.BadLine number place) is good (read, (same, refused)) =
-      subst (λ n. IsBadSchemaLine text n place) (sym same)
-      (record { bytes = l; reached = subst (λ ks. ReachesLine ks (record { number = i + 1; bytes = l })) (sym is) (reaches ys es read good); refused = refused })
-  refused_line text ys es (error.Twice number) is good (read, (same, (e, spelled, earlier))) =
-      subst (λ n. IsTwice text n) (sym same) (twice (lines_read text) is refl)
-    where
-      twice : (ks : List Numbered) → ks ≡ kept (xs ++ l ∷ ys) → lines_read text ≡ ks → IsTwice text (i + 1)
-      twice ks cut whole = record {
+  refused_line : (ys ls : List (List ℕ)) (es : List Entry) (e : SchemaError) → ls ≡ xs ++ l ∷ ys → AreEntryLines es (kept xs)
+      → RefusesNext (i + 1) l es e → RefusesLines (kept ls) e
+  refused_line ys ls es (error.BadLine number place) is good (read, (same, refused)) =
+      subst (λ n. IsBadSchemaLine (kept ls) n place) (sym same)
+      (record { bytes = l; reached = subst (λ ks. ReachesLine (kept ks) (record { number = i + 1; bytes = l })) (sym is) (reaches ys es read good); refused = refused })
+  refused_line ys ls es (error.Twice number) is good (read, (same, (e, spelled, earlier))) =
+      subst (λ n. IsTwice (kept ls) n) (sym same)
+      (record {
         bytes = l;
         reached = record {
           before = kept xs;
-          behind = filter says (numbered_from (i + 1 + 1) ys);
-          cut = whole ∙ (cut ∙ kept_read ys read);
+          behind = lines_kept (i + 1 + 1) ys;
+          cut = ap kept is ∙ kept_read 1 xs l (i + 1) at ys read;
           entries = es;
           good = good;
         };
         entry = e;
         line = spelled;
         earlier = earlier;
-      }
-  refused_line text ys es error.OutOfMemory is good h = tt
+      })
+  refused_line ys ls es error.OutOfMemory is good h = tt
 
 -- ---- the slices of a text
 
-slices_length : (parts : List (Bor (List ℕ))) (i : ℕ) → i < length parts → length (take i (slices parts)) ≡ i
+pub slices_length : (parts : List (Bor (List ℕ))) (i : ℕ) → i < length parts → length (take i (slices parts)) ≡ i
 slices_length parts i within =
     let all : length (slices parts) ≡ length parts = length-map parts (λ (part : Bor (List ℕ)). part.now) in
     length-take-le i (slices parts) (omega (arith, all, within))
 
-slices_more : (parts : List (Bor (List ℕ))) (i : ℕ) (d : Bor (List ℕ)) → i < length parts
+pub slices_more : (parts : List (Bor (List ℕ))) (i : ℕ) (d : Bor (List ℕ)) → i < length parts
     → take (i + 1) (slices parts) ≡ take i (slices parts) ++ (get_or parts i d).now ∷ []
 slices_more parts i d within =
     let all : length (slices parts) ≡ length parts = length-map parts (λ (part : Bor (List ℕ)). part.now) in
     take_more (slices parts) i d.now (omega (arith, all, within))
     ∙ ap (λ l. take i (slices parts) ++ l ∷ []) (get_or-map (λ (part : Bor (List ℕ)). part.now) parts i d d.now within)
+
+pub slices_all : (parts : List (Bor (List ℕ))) (i : ℕ) → length parts ≤ i → take i (slices parts) ≡ slices parts
+slices_all parts i past =
+    let all : length (slices parts) ≡ length parts = length-map parts (λ (part : Bor (List ℕ)). part.now) in
+    take_all i (slices parts) (omega (arith, all, past))
 
 pub lines_more : (parts : List (Bor (List ℕ))) (i : ℕ) (d : Bor (List ℕ)) (old new : List Entry) → i < length parts
     → FollowsLine (i + 1) (get_or parts i d).now old new → AreEntryLines old (kept (take i (slices parts)))
@@ -144,26 +111,21 @@ pub each_more : (parts : List (Bor (List ℕ))) (i : ℕ) (d : Bor (List ℕ)) (
 each_more parts i d old new (inl (skipped, same)) each = subst (All IsEntry) (sym same) each
 each_more parts i d old new (inr (read, (e, is, entry, spelled, other))) each = subst (All IsEntry) (sym is) (All-push IsEntry old e each entry)
 
-pub line_refused : (text : List ℕ) (parts : List (Bor (List ℕ))) (i : ℕ) (d : Bor (List ℕ)) (es : List Entry) (e : SchemaError) → i < length parts
-    → slices parts ≡ text_lines text → AreEntryLines es (kept (take i (slices parts))) → RefusesNext (i + 1) (get_or parts i d).now es e
-    → RefusesSchema text e
-line_refused text parts i d es e within lines good refused =
-    refused_line (take i (slices parts)) (get_or parts i d).now i (slices_length parts i within) text (drop (i + 1) (slices parts)) es e
-    (ap kept (sym lines ∙ sym (slices_split parts i d within))) good refused
+pub line_refused : (parts : List (Bor (List ℕ))) (i : ℕ) (d : Bor (List ℕ)) (es : List Entry) (e : SchemaError) → i < length parts
+    → AreEntryLines es (kept (take i (slices parts))) → RefusesNext (i + 1) (get_or parts i d).now es e
+    → RefusesLines (kept (slices parts)) e
+line_refused parts i d es e within good refused =
+    refused_line (take i (slices parts)) (get_or parts i d).now i (slices_length parts i within) (drop (i + 1) (slices parts)) (slices parts) es e
+    (sym (slices_split parts i d within)) good refused
 
 -- ---- none, and all lines
 
 pub none_read : AreEntryLines [] []
 none_read = record { lines = tt; apart = none_distinct }
 
-pub all_read : (text : List ℕ) (parts : List (Bor (List ℕ))) (i : ℕ) (es : List Entry) → length parts ≤ i → slices parts ≡ text_lines text
-    → AreEntryLines es (kept (take i (slices parts))) → AreEntryLines es (lines_read text)
-all_read text parts i es past lines good =
-    let all : length (slices parts) ≡ length parts = length-map parts (λ (part : Bor (List ℕ)). part.now) in
-    subst (λ ls. AreEntryLines es (kept ls)) (whole (slices parts) i (omega (arith, all, past)) ∙ lines) good
-  where
-    whole : (ls : List (List ℕ)) (n : ℕ) → length ls ≤ n → take n ls ≡ ls
-    whole ls n le = take_all n ls le
+pub all_read : (parts : List (Bor (List ℕ))) (i : ℕ) (es : List Entry) → length parts ≤ i → AreEntryLines es (kept (take i (slices parts)))
+    → AreEntryLines es (kept (slices parts))
+all_read parts i es past good = subst (λ ls. AreEntryLines es (kept ls)) (slices_all parts i past) good
 
 -- ---- the set of names and versions
 

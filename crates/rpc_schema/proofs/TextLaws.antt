@@ -7,9 +7,9 @@ use Rattle.rpc_schema.specs.declared.desc.Entry.{Entry}
 use Rattle.rpc_schema.specs.declared.error.SchemaError.{SchemaError}
 use Rattle.rpc_schema.specs.declared.error.SchemaError.TheVariants as error
 use Rattle.rpc_schema.specs.Entries.{listing_of}
-use Rattle.rpc_schema.specs.TextLines.{Numbered, lines_read}
+use Rattle.rpc_schema.specs.TextLines.{Numbered}
 use Rattle.rpc_schema.specs.SchemaLines.{IsLineRefusedAt}
-use Rattle.rpc_schema.specs.SchemaTexts.{IsEntryLine, AreEntryLines, ReachesLine, IsSchemaText, RefusesSchema, GivesSchema}
+use Rattle.rpc_schema.specs.SchemaTexts.{IsEntryLine, AreEntryLines, ReachesLine, RefusesLines, GivesSchema}
 use Rattle.rpc_schema.proofs.LineLaws.{sure_line}
 use Rattle.rpc_schema.proofs.Distinct.{distinct_behind}
 
@@ -70,10 +70,10 @@ good_not_twice es ls l e good r line earlier =
     (subst (λ (f : Entry). Contains (map listing_of b.fore) (listing_of f)) same
     (subst (λ (fs : List Entry). Contains (map listing_of fs) (listing_of e)) fore earlier))
 
--- a text of a schema is refused only where memory runs out
-pub refuses_none : (text : List ℕ) (e : SchemaError) (es : List Entry) → RefusesSchema text e → IsSchemaText es text → GivesSchema es (Err e)
-refuses_none text (error.BadLine number place) es bad good =
-    absurd (good_not_bad es (lines_read text) (record { number = number; bytes = bad.bytes }) place good bad.reached bad.refused)
-refuses_none text (error.Twice number) es twice good =
-    absurd (good_not_twice es (lines_read text) (record { number = number; bytes = twice.bytes }) twice.entry good twice.reached twice.line twice.earlier)
-refuses_none text error.OutOfMemory es h good = tt
+-- lines of a schema are refused only where memory runs out
+pub refuses_none : (ls : List Numbered) (e : SchemaError) (es : List Entry) → RefusesLines ls e → AreEntryLines es ls → GivesSchema es (Err e)
+refuses_none ls (error.BadLine number place) es bad good =
+    absurd (good_not_bad es ls (record { number = number; bytes = bad.bytes }) place good bad.reached bad.refused)
+refuses_none ls (error.Twice number) es twice good =
+    absurd (good_not_twice es ls (record { number = number; bytes = twice.bytes }) twice.entry good twice.reached twice.line twice.earlier)
+refuses_none ls error.OutOfMemory es h good = tt

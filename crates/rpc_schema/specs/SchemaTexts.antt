@@ -30,25 +30,29 @@ pub record ReachesLine (ls : List Numbered) (l : Numbered) : Type 0 where
   pub good : AreEntryLines entries before
 
 -- the first line at fault is of no entry, and refused at this byte
-pub record IsBadSchemaLine (text : List ℕ) (number at : ℕ) : Type 0 where
+pub record IsBadSchemaLine (ls : List Numbered) (number at : ℕ) : Type 0 where
   pub bytes : List ℕ
-  pub reached : ReachesLine (lines_read text) (record { number = number; bytes = bytes })
+  pub reached : ReachesLine ls (record { number = number; bytes = bytes })
   pub refused : IsLineRefusedAt bytes at
 
 -- the first line at fault has the name and version of an earlier one
-pub record IsTwice (text : List ℕ) (number : ℕ) : Type 0 where
+pub record IsTwice (ls : List Numbered) (number : ℕ) : Type 0 where
   pub bytes : List ℕ
-  pub reached : ReachesLine (lines_read text) (record { number = number; bytes = bytes })
+  pub reached : ReachesLine ls (record { number = number; bytes = bytes })
   pub entry : Entry
   pub line : IsEntryLine entry (record { number = number; bytes = bytes })
   pub earlier : Contains (map listing_of reached.entries) (listing_of entry)
 
 -- ---- answers
 
+-- why the lines are no schema
+abbrev pub RefusesLines : List Numbered → SchemaError → Type 0
+RefusesLines ls (error.BadLine number at) = IsBadSchemaLine ls number at
+RefusesLines ls (error.Twice number) = IsTwice ls number
+RefusesLines ls error.OutOfMemory = Unit {0}
+
 abbrev pub RefusesSchema : List ℕ → SchemaError → Type 0
-RefusesSchema text (error.BadLine number at) = IsBadSchemaLine text number at
-RefusesSchema text (error.Twice number) = IsTwice text number
-RefusesSchema text error.OutOfMemory = Unit {0}
+RefusesSchema text e = RefusesLines (lines_read text) e
 
 -- these entries are given, if memory does not run out
 abbrev pub GivesSchema : List Entry → Result (List Entry) SchemaError → Type 0

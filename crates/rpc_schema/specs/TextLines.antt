@@ -33,6 +33,10 @@ abbrev pub is_skipped : List ℕ → Bool
 is_skipped [] = true
 is_skipped (b ∷ l) = nat_eq b comment_mark
 
--- the lines that say something, with their numbers in the text, which count from 1
+-- the lines that say something, with their numbers, which count from n
+abbrev pub lines_kept : ℕ → List (List ℕ) → List Numbered
+lines_kept n ls = filter (λ l. not (is_skipped l.bytes)) (numbered_from n ls)
+
+-- those of a text, which count from 1
 abbrev pub lines_read : List ℕ → List Numbered
-lines_read text = filter (λ l. not (is_skipped l.bytes)) (numbered_from 1 (text_lines text))
+lines_read text = lines_kept 1 (text_lines text)

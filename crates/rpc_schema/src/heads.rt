@@ -46,7 +46,7 @@ pub fn take_head(line: &mut Line, alloc: Global) -> Result<Head, Stop>
 fn named(line: &mut Line, kind: Kind, alloc: Global) -> Result<Head, Stop>
     ensures { TakesOne (IsNamedHead kind) NamedRefused line.old line.new result }
 {
-    let name = name(line, alloc)?;
+    let name = take_name(line, alloc)?;
     versioned(line, kind, name)
 }
 
@@ -54,7 +54,7 @@ fn named(line: &mut Line, kind: Kind, alloc: Global) -> Result<Head, Stop>
 fn versioned(line: &mut Line, kind: Kind, name: Blob) -> Result<Head, Stop>
     ensures { TakesOne (IsVersioned kind name) VersionedRefused line.old line.new result }
 {
-    let version = version(line)?;
+    let version = take_version(line)?;
     let side = sided(line)?;
     Ok(Head {
         kind,
@@ -112,7 +112,8 @@ fn side_named(word: &[u8]) -> Option<Side>
     }
 }
 
-fn version(line: &mut Line) -> Result<i64, Stop>
+/// Takes a version.
+pub fn take_version(line: &mut Line) -> Result<i64, Stop>
     ensures { TakesOne IsVersionPart (Lacks IsVersionPart) line.old line.new result }
 {
     let version = read_version(line.word());
@@ -124,14 +125,15 @@ pub fn read_version(word: &[u8]) -> Option<i64>
     ensures { MatchOption result ((version : ℤ) → SpellsVersion version word.now → ⊥)
         (λ version. SpellsVersion version word.now) }
 {
-    match number(word, MAX_VERSION) {
+    match read_number(word, MAX_VERSION) {
         Some(n) => Some(n as i64),
         None => None,
     }
 }
 
-// A number of at most `max` in its one form: no sign, and no zero before another digit.
-fn number(word: &[u8], max: u64) -> Option<u64>
+/// The number of at most `max` that a word spells: a decimal without sign and without zeros in
+/// front.
+pub fn read_number(word: &[u8], max: u64) -> Option<u64>
     ensures { MatchOption result ((n : ℕ) → n ≤ max → word.now ≢ decimal n)
         (λ n. (n ≤ max) × (word.now ≡ decimal n)) }
 {
@@ -148,7 +150,8 @@ fn number(word: &[u8], max: u64) -> Option<u64>
     }
 }
 
-fn name(line: &mut Line, alloc: Global) -> Result<Blob, Stop>
+/// Takes a procedure's name, after at least one blank: the longest run of bytes from `!` to `~`.
+pub fn take_name(line: &mut Line, alloc: Global) -> Result<Blob, Stop>
     ensures { TakesOne IsNamePart (Lacks IsNamePart) line.old line.new result }
 {
     let mut behind = Line::new(line.rest());

@@ -8,6 +8,7 @@ mod desc;
 mod error;
 mod heads;
 mod line;
+mod lines;
 mod menu;
 mod order;
 mod reading;
@@ -19,6 +20,9 @@ mod tests;
 
 pub use desc::{Behaviour, Entry, Kind, Listing, Menu, RpcDesc, Side};
 pub use error::SchemaError;
-pub use heads::read_version;
+pub use heads::{read_number, read_version, take_name, take_version};
+pub use line::Line;
+pub use lines::{is_skipped, parts_of, without_last_empty};
 pub use menu::{best, menu_desc, menu_from};
 pub use schema::Schema;
+pub use stop::Stop;

@@ -1,66 +1,36 @@
-// Reading the text of a schema.
-ghost use Rattle.std.specs.Prelude.{◌≡◌, [], nat_eq, IfOk, IfErr};
-ghost use Rattle.std.specs.List.{slice_split};
+// Reading the lines of a schema.
+ghost use Rattle.std.specs.Prelude.{◌≡◌, [], IfOk, IfErr};
 ghost use Rattle.rpc_schema.specs.Entries.{AreEntries, IsEntry};
 ghost use Rattle.rpc_schema.specs.LineAnswers.{TakesOne};
 ghost use Rattle.rpc_schema.specs.SchemaLines.{desc_of, DescribedRefused, IsDescribed, IsLineOf, SchemaLineRefused};
-ghost use Rattle.rpc_schema.specs.SchemaTexts.{IsSchemaText, RefusesSchema, GivesSchema};
+ghost use Rattle.rpc_schema.specs.SchemaTexts.{AreEntryLines, RefusesLines};
 ghost use Rattle.rpc_schema.specs.Reading.{slices, IsHeadGood, Marks, AddsEntry, FollowsLine, RefusesLine, RefusesEntry, RefusesNext};
-ghost use Rattle.rpc_schema.specs.TextLines as lines;
-ghost use Rattle.rpc_schema.specs.TextLines.{line_end};
+ghost use Rattle.rpc_schema.specs.TextLines.{lines_kept};
 
 use crate::behaviours::tail;
 use crate::desc::{Entry, Listing, RpcDesc};
 use crate::error::SchemaError;
 use crate::heads::{Head, take_head};
 use crate::line::Line;
+use crate::lines::is_skipped;
 use crate::shapes::{Shapes, take_shapes};
 use crate::stop::Stop;
-use std::alloc::{AllocError, Global};
+use std::alloc::Global;
 use std::collections::BTreeSet;
 
 /// Reads the lines of a schema, in order.
-pub fn read_entries(alloc: Global, text: &[u8]) -> Result<Vec<Entry>, SchemaError>
-    ensures spelled { IfOk result (λ entries. IsSchemaText entries.items text.now) }
+pub fn read_entries(alloc: Global, lines: &[&[u8]]) -> Result<Vec<Entry>, SchemaError>
+    ensures spelled { IfOk result (λ entries.
+        AreEntryLines entries.items (lines_kept 1 (slices lines.now))) }
     ensures good { IfOk result (λ entries. AreEntries entries.items) }
-    ensures refused { IfErr result (RefusesSchema text.now) }
+    ensures refused { IfErr result (RefusesLines (lines_kept 1 (slices lines.now))) }
 {
-    let parts = parts_of(alloc, text)?;
-    let lines = without_last_empty(&parts);
     let mut entries = Vec::new(alloc);
     let mut seen = BTreeSet::new(alloc);
     for (index, line) in lines.iter().enumerate() {
         read_line(alloc, &mut entries, &mut seen, index as u64 + 1, line)?;
     }
     Ok(entries)
-}
-
-// What stands before, between and after the ends of lines.
-fn parts_of(alloc: Global, text: &[u8]) -> Result<Vec<&[u8]>, AllocError>
-    ensures { IfOk result (λ parts. slices parts.items
-        ≡ slice_split (λ byte. nat_eq byte line_end) text.now) }
-{
-    text.split(|byte| *byte == b'\n').collect(alloc)
-}
-
-// The lines of a text, by those parts.
-fn without_last_empty<'a>(parts: &'a [&'a [u8]]) -> &'a [&'a [u8]]
-    ensures { slices result.now ≡ lines.without_empty_last (slices parts.now) }
-{
-    let [lines @ .., last] = parts else {
-        return parts;
-    };
-    if last.is_empty() { lines } else { parts }
-}
-
-// Whether a line says nothing.
-fn is_skipped(line: &[u8]) -> bool
-    ensures { result ≡ lines.is_skipped line.now }
-{
-    match line {
-        [] => true,
-        [first, ..] => *first == b'#',
-    }
 }
 
 // Adds the entry of a line, if it says something.

@@ -2,12 +2,15 @@ ghost use Rattle.std.specs.Prelude.{◌≡◌, ◌≢◌, ◌↔◌, ℕ, List, 
 ghost use Rattle.rpc_schema.specs.declared.desc.Side.TheVariants.{Both};
 ghost use Rattle.rpc_schema.specs.Entries.{listing_of, AreEntries};
 ghost use Rattle.rpc_schema.specs.declared.desc.Entry.{Entry};
-ghost use Rattle.rpc_schema.specs.SchemaTexts.{IsSchemaText, GivesSchema, RefusesSchema};
+ghost use Rattle.rpc_schema.specs.SchemaTexts.{AreEntryLines, IsSchemaText, GivesSchema, RefusesLines, RefusesSchema};
+ghost use Rattle.rpc_schema.specs.TextLines.{lines_kept};
+ghost use Rattle.rpc_schema.specs.Reading.{slices};
 ghost use Rattle.rpc_schema.specs.Choice.{is_offered, offered, IsMenuOf, IsSought, StandsAt};
 
 use crate::copying::entries_copy;
 use crate::desc::{Entry, Listing, Menu, Side};
 use crate::error::SchemaError;
+use crate::lines::{parts_of, without_last_empty};
 use crate::reading::read_entries;
 use bp_value::{Listed, OutOfMemory};
 use std::alloc::Global;
@@ -47,8 +50,22 @@ impl Schema {
         ensures only { (es : List Entry) → IsSchemaText es text.now → GivesSchema es result }
         ensures refused { IfErr result (RefusesSchema text.now) }
     {
+        let parts = parts_of(alloc, text)?;
+        Schema::read_lines(alloc, without_last_empty(&parts))
+    }
+
+    /// Reads the lines of a schema, as the front of another text has them. They are counted from 1.
+    ///
+    /// The time is that of `read`.
+    pub fn read_lines(alloc: Global, lines: &[&[u8]]) -> Result<Schema, SchemaError>
+        ensures spelled { IfOk result (λ schema.
+            AreEntryLines schema (lines_kept 1 (slices lines.now))) }
+        ensures only { (es : List Entry) → AreEntryLines es (lines_kept 1 (slices lines.now))
+            → GivesSchema es result }
+        ensures refused { IfErr result (RefusesLines (lines_kept 1 (slices lines.now))) }
+    {
         Ok(Schema {
-            entries: read_entries(alloc, text)?,
+            entries: read_entries(alloc, lines)?,
         })
     }
 

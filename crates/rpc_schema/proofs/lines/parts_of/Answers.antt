@@ -1,0 +1,12 @@
+-- The parts are what `split` gives, as one list.
+use Rattle.std.proofs.Common.{rules, nat_eq}
+use Rattle.std.proofs.lemmas.Iterator.Consumers.{map_from_collect}
+use Rattle.std.proofs.lemmas.Iterator.Splits.{YieldsList-from_slice_split}
+use Rattle.rpc_schema.specs.TextLines.{line_end}
+use Rattle.rpc_schema.proofs.lines.parts_of.Goals as goal
+
+pub returns : goal.returns
+returns c =
+    map_from_collect _ c.collect.ensures.ran
+    (YieldsList-from_slice_split _ (λ byte. nat_eq byte line_end) c.args.text.now
+    c.split.ensures.rest c.split.ensures.done c.split.ensures.closure (search rules))
