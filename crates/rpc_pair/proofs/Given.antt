@@ -57,7 +57,7 @@ bodies_count : (log : List Message) → length (map body_of log) ≡ length log
 bodies_count [] = refl
 bodies_count (a ∷ log) = ap suc (bodies_count log)
 
-none_whole : (log : List Message) → whole log 0 ≡ []
+pub none_whole : (log : List Message) → whole log 0 ≡ []
 none_whole [] = refl
 none_whole (a ∷ log) = ap (λ b. if b then a ∷ whole log (0 - size a) else []) (le_false (size a) 0 (omega (arith, some_size a)))
 

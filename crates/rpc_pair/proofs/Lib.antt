@@ -26,3 +26,5 @@ pub mod Choices
 pub mod ServerFeeds
 pub mod FeedMoments
 pub mod ClientFeeds
+pub mod Pieces
+pub mod StillTaken
