@@ -1,3 +1,4 @@
+pub mod Basics
 pub mod Schemas
 pub mod Places
 pub mod AskReads

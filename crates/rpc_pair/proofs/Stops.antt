@@ -1,5 +1,5 @@
 -- An abort that comes to a server stops the stream of its query where that goes on, and does nothing where it is over.
-use Rattle.std.proofs.Common.{◌≡◌, refl, sym, ap, ◌∙◌, subst, ℕ, ◌+◌, Bool, true, false, not, ◌&&◌, ◌||◌, if◌then◌else◌, List, [], ◌∷◌, ◌++◌, map, arith}
+use Rattle.std.proofs.Common.{◌≡◌, refl, sym, ap, ◌∙◌, subst, ℕ, ◌+◌, Bool, true, false, not, ◌&&◌, if◌then◌else◌, List, [], ◌∷◌, ◌++◌, map, arith}
 use Rattle.std.specs.Prelude.{Option, Some, None, Result}
 use Rattle.std.specs.List.{list_any}
 use Rattle.std.specs.Option.{option_map}
@@ -32,10 +32,7 @@ use Rattle.rpc_pair.proofs.Calls.{over_heard, stop_heard}
 use Rattle.rpc_pair.proofs.Hearing.{hears_query, query_is}
 use Rattle.rpc_pair.proofs.Meets.{Meets}
 use Rattle.rpc_pair.proofs.Tables.{one_is, one_open, open_changed}
-
-or_true : (b : Bool) → (b || true) ≡ true
-or_true true = refl
-or_true false = refl
+use Rattle.rpc_pair.proofs.Basics.{or_true}
 
 -- ---- how a query stands, by its tests
 
