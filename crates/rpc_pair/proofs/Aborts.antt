@@ -88,6 +88,7 @@ module _ (r : Common) (is : IsOfSchema r) (t : Talk) (came rest got : List Messa
   ok : IsOk r
   ok = schema_ok r is
 
+  -- the world reads it as an abort
   pub stops_it : is_abort_query r.entries q ≡ true
   stops_it = ap (is_abort_query r.entries) (query_same q a.desc.name _ a.desc.version a.tag a.version abort.1) ∙ ok.aborts a.desc q.id a.known abort.0
 
@@ -174,5 +175,6 @@ module _ (r : Common) (is : IsOfSchema r) (t : Talk) (came rest got : List Messa
       let (name, version) = stops_same q.tag d.desc.name q.version d.desc.version (ap (λ b. ask_by b q.tag q.version) (sym stops_it) ∙ ends) in
       its_stream d asks_it one (name ∙ a.tag) (version ∙ a.version) n is_cut
 
+  -- the query of an abort that comes is a stream that has begun, and that no abort stopped
   pub abort_stream : (p : Served) × IsStream r t a.desc q.id p
   abort_stream = let (d, asks_it) = asked r ok t came rest meets.sound q cut in next_stream d asks_it asks_it.3

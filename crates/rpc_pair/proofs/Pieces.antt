@@ -30,6 +30,7 @@ whole_longer log a b le =
     let count : a + (b - a) ≡ b = omega (arith, le) in
     omega (arith, ap (λ k. length (whole log k)) count, ap (λ xs. length xs) is, length-append (whole log a) fresh)
 
+-- more bytes have no fewer whole frames
 pub frames_grow : (log : List Message) (a b : ℕ) → a ≤ b → frame_count log a ≤ frame_count log b
 frames_grow log a b le = by (tells_le header_size a)
   where

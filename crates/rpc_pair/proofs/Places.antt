@@ -46,6 +46,7 @@ module _ (es : List Entry) (tag : List ℕ) (version : ℤ) (e : Entry) (here : 
   pub owner_line : is_menu tag version ≡ false → owner es tag version ≡ Line (position_or_len (is_served tag version) es)
   owner_line other = ap (λ b. if b then Menu else owner_at (position (is_served tag version) es)) other ∙ ap owner_at place_is
 
+-- the menu answers its own name and version
 pub owner_menu : (es : List Entry) (tag : List ℕ) (version : ℤ) → is_menu tag version ≡ true → owner es tag version ≡ Menu
 owner_menu es tag version is = ap (λ b. if b then Menu else owner_at (position (is_served tag version) es)) is
 
@@ -65,6 +66,7 @@ none_named (y ∷ es) tag version x is none = by (is_entry tag version y) refl (
     by true at later = absurd (none zero (ap Some (listing_is tag version y at ∙ sym (listing_is tag version x is))))
     by false at later = later
 
+-- no line, or one that only the caller has
 abbrev pub IsNotOffered : Option Entry → Type 0
 IsNotOffered None = Unit {0}
 IsNotOffered (Some e) = is_offered e.side ≡ false
