@@ -45,6 +45,7 @@ pub record IsAsking (r : Common) (q : Query) : Type 0 where
   pub id : InRange 62 q.id
   pub says : IsCallTo r desc q ⊎ IsAbortTo desc q
 
+-- a heartbeat, or a query of the client
 abbrev pub IsUp : Common → Message → Type 0
 IsUp r message.Heartbeat = Unit {0}
 IsUp r (message.Query q) = IsAsking r q
@@ -60,14 +61,17 @@ IsOfAct r a = (d : RpcDesc) × (act : Act) × (a.result ≡ answer_by d act) × 
 abbrev pub IsOfMenu : Common → Response → Type 0
 IsOfMenu r a = (bytes : List ℕ) × (a.result ≡ fitting (most r) a.id (answer.Ok bytes))
 
+-- that nobody has a procedure which the client knows
 abbrev pub IsOfNobody : Common → Response → Type 0
 IsOfNobody r a = (d : RpcDesc) × IsKnown r d × (a.result ≡ fitting (most r) a.id (unimplemented d.name d.version))
 
+-- a heartbeat, or an answer under an id that a query had
 abbrev pub IsDown : Common → Message → Type 0
 IsDown r message.Heartbeat = Unit {0}
 IsDown r (message.Query q) = ⊥
 IsDown r (message.Response a) = InRange 62 a.id × (IsOfAct r a ⊎ (IsOfMenu r a ⊎ IsOfNobody r a))
 
+-- all that goes up and all that goes down is so
 pub record AreCarried (r : Common) (t : Talk) : Type 0 where
   pub ups : Each (IsUp r) t.ups
   pub downs : Each (IsDown r) t.downs
@@ -94,6 +98,7 @@ asked_range r id (message.Query q ∷ log) x xs all e = by (int_eq q.id id) refl
 -- ---- each effect on the talk
 
 module _ (r : Common) (t : Talk) (c : AreCarried r t) where
+  -- a dispatch: its query goes up
   pub carried_dispatched : (d : Dispatch) (v : Value) → IsKnown r d.desc → InRange 62 d.id → Fits (most r) (form_of d.desc.query) v
       → is_short (most r) (query_of d v) ≡ true → AreCarried r (with_dispatch t d v)
   carried_dispatched d v known id fits short = record {
@@ -102,6 +107,7 @@ module _ (r : Common) (t : Talk) (c : AreCarried r t) where
     downs = c.downs;
   }
 
+  -- an abort of a stream goes up
   pub carried_aborted : (d : Dispatch) (n : ℕ) → IsKnown r d.desc → InRange 62 d.id → is_stream d.desc.kind ≡ true → AreCarried r (with_abort t d n)
   carried_aborted d n known id stream = record {
     ups = each_push (IsUp r) t.ups _ c.ups
@@ -109,6 +115,7 @@ module _ (r : Common) (t : Talk) (c : AreCarried r t) where
     downs = c.downs;
   }
 
+  -- what an act says goes down, where it is short or the end of a stream
   pub carried_acted : (q : Served) (act : Act) → InRange 62 q.id → (may_be_long act ≡ true → is_short (most r) (response q.id (answer_by q.desc act)) ≡ true)
       → AreCarried r (with_answer t q act)
   carried_acted q act id short = record {
@@ -116,9 +123,11 @@ module _ (r : Common) (t : Talk) (c : AreCarried r t) where
     downs = each_push (IsDown r) t.downs (response q.id (answer_by q.desc act)) c.downs (id, inl (q.desc, act, refl, short));
   }
 
+  -- an act was refused because its query was stopped: nothing goes out
   pub carried_told : (id : ℤ) → AreCarried r (told_stopped t id)
   carried_told id = record { ups = c.ups; downs = c.downs }
 
+  -- a heartbeat goes up, or down
   pub carried_up_beat : AreCarried r (up_beat t)
   carried_up_beat = record { ups = each_push (IsUp r) t.ups message.Heartbeat c.ups tt; downs = c.downs }
 
@@ -154,6 +163,7 @@ module _ (r : Common) (t : Talk) (c : AreCarried r t) where
       by true = carried_acted p acts.Stop (subst (InRange 62) (sym (find_key query_key id t.queries p here)) within) (λ e. absurd cc)
       by false = c
 
+  -- any message that goes up: what the server says to it goes down
   pub carried_heard : (a : Message) → IsUp r a → AreCarried r (heard_up r t a)
   carried_heard message.Heartbeat is = c
   carried_heard (message.Response a) is = absurd is
@@ -171,6 +181,7 @@ each_front : (P : Message → Type 0) (log rest : List Message) → Each P (log 
 each_front P [] rest all = tt
 each_front P (a ∷ log) rest all = (all.0, each_front P log rest all.1)
 
+-- some messages, one after the other
 pub carried_all : (r : Common) (t : Talk) (came log rest : List Message) → came ++ (log ++ rest) ≡ t.ups → AreCarried r t → AreCarried r (fold (heard_up r) t log)
 carried_all r t came log rest cut c = by t log c (each_front (IsUp r) log rest (each_behind (IsUp r) came (log ++ rest) (subst (Each (IsUp r)) (sym cut) c.ups)))
   where

@@ -7,18 +7,16 @@ use Rattle.std.proofs.lemmas.Bool.Decides.{Decides-int_eq}
 use Rattle.std.proofs.lemmas.List.{append-nil, length-drop}
 use Rattle.readers.specs.Reader.{Each}
 use Rattle.rpc_msg.specs.declared.shared.Part.{Part}
-use Rattle.rpc_schema.specs.declared.desc.Kind.{Kind}
-use Rattle.rpc_schema.specs.declared.desc.Kind.TheVariants.{Plain, OneWay, Pipe, State}
 use Rattle.rpc_schema.specs.declared.desc.RpcDesc.{RpcDesc}
 use Rattle.rpc_end.specs.Ends.{is_closed, said}
 use Rattle.rpc_log.specs.Logs.{responses_of}
-use Rattle.rpc_talk.specs.Parts.{CallParts, Held, cut_ending, cut_parts, is_stream, is_tracked, parts_of}
+use Rattle.rpc_talk.specs.Parts.{CallParts, Held, cut_ending, cut_parts, is_stream, parts_of}
 use Rattle.rpc_meeting.specs.Steps as world
 use Rattle.rpc_meeting.specs.Steps.{Refusal, Refused, Stepped, Done, abort_held, done, refused}
 use Rattle.rpc_meeting.specs.Talks.{Common, Dispatch, abort_body, abort_of, cut_at, find_made, is_nil, parts_in, query_to, received, with_abort}
 use Rattle.rpc_meeting.specs.Worlds.{World, come, is_shut, set_talk}
 use Rattle.rpc_meeting.proofs.Lines.{most}
-use Rattle.rpc_meeting.proofs.Look.{no_true}
+use Rattle.rpc_meeting.proofs.Look.{no_true, some_is}
 use Rattle.rpc_client.specs.Clients.{ClientState, IsAborted}
 use Rattle.rpc_client.specs.Kept.{HaveOwnIds, Holds, IsAt, IsKept, IsPhase, ending_kept}
 use Rattle.rpc_client.specs.Rows.{Row, abort_refusal, is_at_first, row_aborted}
@@ -30,11 +28,9 @@ use Rattle.rpc_client.specs.declared.error.AbortError.TheVariants as unstopped
 use Rattle.rpc_pair.specs.Callers.{AreRowsOf, AsksAlong, CallsAlong, ClientStands, IsRowOf, aborted_as}
 use Rattle.rpc_pair.proofs.CallRows.{row_found}
 use Rattle.rpc_pair.proofs.Held.{IsKeptBy}
+use Rattle.rpc_pair.proofs.Basics.{stream_tracked}
 
 -- ---- a row is cut
-
-some_is : (x y : Row) → Some x ≡ Some y → x ≡ y
-some_is x y e = cc
 
 test_other : (i j : ℤ) → i ≢ j → int_eq i j ≡ false
 test_other i j apart = by (int_eq i j) refl
@@ -99,12 +95,6 @@ first_row p at (Some n) is e = absurd cc
 first_row p phase.First None (going, none) e = sym (ap is_nil none)
 first_row p phase.Begun None (going, (first, rest, some)) e = sym (ap is_nil some)
 first_row p phase.Done None (ending, ends) e = absurd (no_true (sym (ap (λ m. is_some (cut_ending None m false)) ends) ∙ e))
-
-stream_tracked : (kind : Kind) → is_stream kind ≡ true → is_tracked kind ≡ true
-stream_tracked Plain e = absurd cc
-stream_tracked OneWay e = absurd cc
-stream_tracked Pipe e = refl
-stream_tracked State e = refl
 
 -- as many parts as were taken and are left
 parts_count : (ps waiting : List Part) (taken : ℕ) → waiting ≡ drop taken ps → taken ≤ length ps → taken + length waiting ≡ length ps

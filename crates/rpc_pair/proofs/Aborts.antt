@@ -1,5 +1,5 @@
 -- The query of an abort that comes to a server: its stream has begun, and no abort came before.
-use Rattle.std.proofs.Common.{◌≡◌, refl, sym, ap, ◌∙◌, subst, ℕ, ℤ, Bool, true, false, not, ◌&&◌, if◌then◌else◌, List, [], ◌∷◌, ◌++◌, inl, inr}
+use Rattle.std.proofs.Common.{◌≡◌, refl, sym, ap, ◌∙◌, subst, ℕ, ℤ, Bool, true, false, not, if◌then◌else◌, List, [], ◌∷◌, ◌++◌, inl, inr}
 use Rattle.std.specs.Prelude.{Some}
 use Rattle.std.specs.List.{list_any}
 use Rattle.rpc_msg.specs.declared.message.Answer.TheVariants as answer
@@ -30,6 +30,7 @@ use Rattle.rpc_pair.proofs.Calls.{line_answerer, line_here}
 use Rattle.rpc_pair.proofs.Meets.{Meets}
 use Rattle.rpc_pair.proofs.NewCalls.{query_same}
 use Rattle.rpc_pair.proofs.Schemas.{schema_ok}
+use Rattle.rpc_pair.proofs.Basics.{stream_tracked, three_true}
 
 -- ---- procedures
 
@@ -37,12 +38,6 @@ use Rattle.rpc_pair.proofs.Schemas.{schema_ok}
 line_of : (r : Common) (d : RpcDesc) → IsKnown r d → is_stream d.kind ≡ true → (e : Entry) × (line_named r.entries d.name d.version ≡ Some e) × (e.desc ≡ d)
 line_of r d (inl menu) stream = absurd (let plain : false ≡ true = ap (λ (x : RpcDesc). is_stream x.kind) (sym menu) ∙ stream in cc)
 line_of r d (inr line) stream = line
-
-stream_tracked : (kind : Kind) → is_stream kind ≡ true → is_tracked kind ≡ true
-stream_tracked Plain e = absurd cc
-stream_tracked OneWay e = absurd cc
-stream_tracked Pipe e = refl
-stream_tracked State e = refl
 
 -- a call that was answered by an error has not begun
 error_begun : (m : ℕ) (d : RpcDesc) (e : RpcError) → has_begun m d (answer.Error e ∷ []) ≡ true → ⊥
@@ -93,6 +88,7 @@ module _ (r : Common) (is : IsOfSchema r) (t : Talk) (came rest got : List Messa
   ok : IsOk r
   ok = schema_ok r is
 
+  -- the world reads it as an abort
   pub stops_it : is_abort_query r.entries q ≡ true
   stops_it = ap (is_abort_query r.entries) (query_same q a.desc.name _ a.desc.version a.tag a.version abort.1) ∙ ok.aborts a.desc q.id a.known abort.0
 
@@ -159,7 +155,7 @@ module _ (r : Common) (is : IsOfSchema r) (t : Talk) (came rest got : List Messa
             unstopped = unstopped;
             untold = never p.told (λ u. no_true (sym (mark.told u) ∙ unstopped));
             stop = λ going.
-                let stops : stops_one p ≡ true = three (is_stream p.desc.kind) (goes_on_still p) (is_begun p) stream going begun in
+                let stops : stops_one p ≡ true = three_true (is_stream p.desc.kind) (goes_on_still p) (is_begun p) stream going begun in
                 stop_over (most r) p had going begun stream
                 (stop_timely r d p ok stops (asks_of r.entries q.id t.ups) (asks_of r.entries q.id came) (responses_of q.id t.downs) its);
           },
@@ -168,12 +164,6 @@ module _ (r : Common) (is : IsOfSchema r) (t : Talk) (came rest got : List Messa
         never : (b : Bool) → (b ≡ true → ⊥) → b ≡ false
         never true not_so = absurd (not_so refl)
         never false not_so = refl
-
-        three : (x y z : Bool) → x ≡ true → y ≡ true → z ≡ true → (x && y && z) ≡ true
-        three true true true e f g = refl
-        three true true false e f g = absurd cc
-        three true false z e f g = absurd cc
-        three false y z e f g = absurd cc
 
   -- the query of an abort that comes
   next_stream : (d : Dispatch) (asks_it : IsAsked r ok t came rest meets.sound q cut d)
@@ -185,5 +175,6 @@ module _ (r : Common) (is : IsOfSchema r) (t : Talk) (came rest got : List Messa
       let (name, version) = stops_same q.tag d.desc.name q.version d.desc.version (ap (λ b. ask_by b q.tag q.version) (sym stops_it) ∙ ends) in
       its_stream d asks_it one (name ∙ a.tag) (version ∙ a.version) n is_cut
 
+  -- the query of an abort that comes is a stream that has begun, and that no abort stopped
   pub abort_stream : (p : Served) × IsStream r t a.desc q.id p
   abort_stream = let (d, asks_it) = asked r ok t came rest meets.sound q cut in next_stream d asks_it asks_it.3

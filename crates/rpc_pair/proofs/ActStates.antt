@@ -13,6 +13,7 @@ use Rattle.rpc_meeting.specs.Talks.{act_said, is_nil, is_stop}
 abbrev parts_by : Kind → List Act → CallParts
 parts_by kind acts = kind_parts kind (map act_said acts)
 
+-- behind these acts and one more: whether the query goes on, has begun, and was stopped by none of the acts before
 pub record IsBehind (kind : Kind) (acts : List Act) (act : Act) : Type 0 where
   pub going : goes_on (parts_by kind (acts ++ act ∷ [])).mark ≡ not (finishes act)
   pub begun : finishes act ≡ false → not (is_nil (parts_by kind (acts ++ act ∷ [])).parts) ≡ true

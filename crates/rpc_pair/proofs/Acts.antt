@@ -43,6 +43,7 @@ use Rattle.rpc_pair.proofs.Schemas.{room, schema_ok}
 use Rattle.rpc_pair.proofs.ServedLines.{IsAnswered, kept_line}
 use Rattle.rpc_pair.proofs.Stops.{going_stands, quiet_stands, stopped_stands}
 use Rattle.rpc_pair.proofs.Tables.{one_is, one_open, open_changed, standing_count, stands_put}
+use Rattle.rpc_pair.proofs.Basics.{and_false}
 
 -- ---- the tests of an act
 
@@ -92,10 +93,6 @@ end_short r is d id (Decline v) long = refl
 end_short r is d id (Give v) long = refl
 end_short r is d id End long = absurd (no_true (sym (eof_short r is id) ∙ long))
 end_short r is d id Stop long = absurd (no_true (sym (eof_short r is id) ∙ long))
-
-and_false : (b : Bool) → (b && false) ≡ false
-and_false true = refl
-and_false false = refl
 
 module _ (r : Common) (is : IsOfSchema r) (w : World) (sound : IsSound r w.talk (arrived w)) (s : ServerState) (stands : ServerStands r s w.talk)
     (shut : is_closed s.link ≡ is_shut w.server) (d : Dispatch) (own : find_made d.id w.talk.made ≡ Some d) (act : Act) (fits : suits act d.desc.kind ≡ true)

@@ -52,6 +52,7 @@ found_as id (d ∷ made) (row ∷ rows) (is, are) = by (int_eq d.id id) (int_eq 
     by false true e later = absurd cc
     by false false e later = later
 
+-- the call of a dispatch is found by its id
 pub row_found : (id : ℤ) (made : List Dispatch) (rows : List Row) (d : Dispatch) → AreRowsOf made rows → find_made id made ≡ Some d
     → (row : Row) × (find_row id rows ≡ Some row) × IsRowOf d row
 row_found id made rows d are here = by (find_row id rows) refl (subst (λ o. IsFoundAs o (find_row id rows)) here (found_as id made rows are))
@@ -60,6 +61,7 @@ row_found id made rows d are here = by (find_row id rows) refl (subst (λ o. IsF
     by None e is = absurd is
     by (Some row) e is = (row, e, is)
 
+-- one more dispatch has one more call
 pub rows_push : (made : List Dispatch) (rows : List Row) (d : Dispatch) (row : Row) → AreRowsOf made rows → IsRowOf d row → AreRowsOf (made ++ d ∷ []) (rows ++ row ∷ [])
 rows_push [] [] d row are is = (is, tt)
 rows_push [] (x ∷ rows) d row are is = absurd are

@@ -1,5 +1,5 @@
 -- What a server does with a query that went up: with a call what its answerer does, and an abort stops what is open.
-use Rattle.std.proofs.Common.{◌≡◌, refl, sym, ap, ◌∙◌, subst, ℕ, Bool, true, false, ◌&&◌, nat_le, if◌then◌else◌, inl, inr}
+use Rattle.std.proofs.Common.{◌≡◌, refl, sym, ap, ◌∙◌, subst, ℕ, Bool, true, false, nat_le, if◌then◌else◌, inl, inr}
 use Rattle.std.specs.Prelude.{Some, slice_get}
 use Rattle.std.specs.List.{position_or_len}
 use Rattle.bp_value.specs.declared.value.Value.{Value}
@@ -27,6 +27,7 @@ use Rattle.rpc_pair.specs.Stands.{line_place}
 use Rattle.rpc_pair.proofs.Places.{owner_line, owner_menu, owner_nobody, place_line}
 use Rattle.rpc_pair.proofs.AskReads.{abort_read, call_read, menu_read}
 use Rattle.rpc_pair.proofs.Schemas.{schema_ok}
+use Rattle.rpc_pair.proofs.Basics.{three_true}
 
 -- by who answers it in the world
 abbrev pub call_heard : Answerer → Common → Query → ℕ → Value → Heard
@@ -115,17 +116,11 @@ module _ (r : Common) (is : IsOfSchema r) (q : Query) (a : IsAsking r q) where
     pub over_heard : heard_new (rules_of r) count q ≡ does.Ignored
     over_heard = line_heard count e Aborts (line_here e here) is_desc offered (abort_read r is a.desc q a.known abort)
 
-    three : (x y z : Bool) → x ≡ true → y ≡ true → z ≡ true → (x && y && z) ≡ true
-    three true true true e f g = refl
-    three true true false e f g = absurd cc
-    three true false z e f g = absurd cc
-    three false y z e f g = absurd cc
-
     aborts_here : aborts_some (most r) q (slice_get r.entries (line_place r.entries a.desc)) ≡ true
     aborts_here =
         ap (λ p. aborts_some (most r) q (slice_get r.entries p)) (sym place_same)
         ∙ (ap (aborts_some (most r) q) (place_line r.entries q.tag q.version e (line_here e here) offered)
-        ∙ three (is_stream e.desc.kind) (is_named_by q e) (is_abort (asks_in (most r) e.desc q.body)) (ap (λ (d : RpcDesc). is_stream d.kind) is_desc ∙ abort.0)
+        ∙ three_true (is_stream e.desc.kind) (is_named_by q e) (is_abort (asks_in (most r) e.desc q.body)) (ap (λ (d : RpcDesc). is_stream d.kind) is_desc ∙ abort.0)
         (found_is (is_entry q.tag q.version) r.entries e (line_here e here))
         (ap (λ d. is_abort (asks_in (most r) d q.body)) is_desc ∙ ap is_abort (abort_read r is a.desc q a.known abort)))
 

@@ -15,6 +15,7 @@ use Rattle.rpc_log.specs.Readings.{both_of, items_by, number_by, number_told, pa
 use Rattle.rpc_schema.specs.Choice.{IsChoice, IsCommon, listing_value, menu_value}
 use Rattle.rpc_schema.specs.declared.desc.Listing.{Listing}
 use Rattle.rpc_meeting.specs.Menus.{best_version, greater, greatest, is_listed, listing_by, listing_from, listing_told, listings_by, listings_told}
+use Rattle.rpc_pair.proofs.Basics.{both_true, listing_made}
 
 -- ---- the menu of a value
 
@@ -139,14 +140,6 @@ in_both p (y ∷ own) x c = by (p y) refl c (in_both p own x)
     by true at c later = split at (contains_split x y (filter p own) c) later
     by false at c later = let (here, e) = later c in (contains_more x y own here, e)
 
-listing : List ℕ → ℤ → Listing
-listing name version = record { name = name; version = version }
-
-both_true : (a b : Bool) → (a && b) ≡ true → (a ≡ true) × (b ≡ true)
-both_true true true e = (refl, refl)
-both_true true false e = absurd cc
-both_true false b e = absurd cc
-
 true_both : (a b : Bool) → a ≡ true → b ≡ true → (a && b) ≡ true
 true_both true true e f = refl
 true_both true false e f = absurd cc
@@ -156,19 +149,17 @@ listing_more : (x y : Listing) (ls : List Listing) → Contains ls x → Contain
 listing_more x y ls (k, lt, is) = (suc k, omega (arith, lt), is)
 
 -- a version is listed where its name and it stand in the menu
-listed_in : (ls : List Listing) (name : List ℕ) (v : ℤ) → is_listed ls name v ≡ true → Contains ls (listing name v)
-unfolding listing
+listed_in : (ls : List Listing) (name : List ℕ) (v : ℤ) → is_listed ls name v ≡ true → Contains ls (listing_made name v)
 listed_in [] name v e = absurd cc
 listed_in (l ∷ ls) name v e = by (bytes_eq l.name name && int_eq l.version v) refl e (listed_in ls name v)
   where
-    by : (b : Bool) → (bytes_eq l.name name && int_eq l.version v) ≡ b → (b || is_listed ls name v) ≡ true → (is_listed ls name v ≡ true → Contains ls (listing name v)) → Contains (l ∷ ls) (listing name v)
+    by : (b : Bool) → (bytes_eq l.name name && int_eq l.version v) ≡ b → (b || is_listed ls name v) ≡ true → (is_listed ls name v ≡ true → Contains ls (listing_made name v)) → Contains (l ∷ ls) (listing_made name v)
     by true at e later =
         let (same, number) = both_true (bytes_eq l.name name) (int_eq l.version v) at in
-        (zero, omega arith, ap (λ n. listing n l.version) ((bytes_eq-Decides l.name name).0 same) ∙ ap (listing name) ((Decides-int_eq l.version v).0 number))
-    by false at e later = listing_more (listing name v) l ls (later e)
+        (zero, omega arith, ap (λ n. listing_made n l.version) ((bytes_eq-Decides l.name name).0 same) ∙ ap (listing_made name) ((Decides-int_eq l.version v).0 number))
+    by false at e later = listing_more (listing_made name v) l ls (later e)
 
-in_listed : (ls : List Listing) (name : List ℕ) (v : ℤ) → Contains ls (listing name v) → is_listed ls name v ≡ true
-unfolding listing
+in_listed : (ls : List Listing) (name : List ℕ) (v : ℤ) → Contains ls (listing_made name v) → is_listed ls name v ≡ true
 in_listed [] name v (k, lt, is) = absurd (let none : k < 0 = lt in omega arith)
 in_listed (l ∷ ls) name v (zero, lt, is) =
     ap (λ b. b || is_listed ls name v)
@@ -183,7 +174,6 @@ in_listed (l ∷ ls) name v (suc k, lt, is) = or_right (bytes_eq l.name name && 
 
 -- The version that is chosen is the world's.
 pub choice_best : (own : List ℤ) (ls : List Listing) (name : List ℕ) (o : Option ℤ) → IsChoice own ls name o → o ≡ best_version own ls name
-unfolding listing
 choice_best own ls name o choice = by o (best_version own ls name) choice (greatest_is (filter (is_listed ls name) own))
   where
     common : (v : ℤ) → IsCommon own ls name v → Contains (filter (is_listed ls name) own) v

@@ -54,6 +54,7 @@ pub record GetsOn (r : Common) (now : ℕ) (c : ClientState) (t : Talk) (given a
   pub moments : (side : Side) → LinkStands r (length given) side now c.link
       → LinkStands r (length after) (side_behind t.downs side now (length given) (length after)) now new.link
 
+-- a feed: it gets more; it is closed by nothing; where memory ran out it is as it was
 abbrev pub GetsAlong : Common → ℕ → ClientState → Talk → List ℕ → List ℕ → List Message → List Message → Result ℕ FeedError → ClientState → Type 0
 GetsAlong r now c t given piece up come (Ok used) new = GetsOn r now c t given (given ++ take used piece) up come new
 GetsAlong r now c t given piece up come (Err (feed.Closed why)) new = ⊥

@@ -21,7 +21,7 @@ use Rattle.rpc_meeting.specs.Talks.{Common, Dispatch, Talk}
 use Rattle.rpc_meeting.proofs.Carried.{IsDown, next_each}
 use Rattle.rpc_meeting.proofs.Comes.{next_welcome}
 use Rattle.rpc_meeting.proofs.Lines.{most}
-use Rattle.rpc_meeting.proofs.Look.{no_true}
+use Rattle.rpc_meeting.proofs.Look.{no_true, some_is}
 use Rattle.rpc_client.specs.Clients.{ClientState, HearsOne, Hearing, answering, by_rows, closed_for, fed, hearing}
 use Rattle.rpc_client.specs.Kept.{IsKept, row_calls}
 use Rattle.rpc_client.specs.Rows.{Row, is_done, next_said, row_answered, row_told, finished}
@@ -63,9 +63,6 @@ answered_like m row a = by (is_tracked row.desc.kind) (is_done row.phase) (is_er
     by true false e told = told
     by false d true told = (refl, refl, refl)
     by false d false told = tt
-
-some_is : (x y : Row) → Some x ≡ Some y → x ≡ y
-some_is x y e = cc
 
 rows_like : (new row : Row) → IsLike row new → (made : List Dispatch) (rows : List Row) → AreRowsOf made rows → find_row new.id rows ≡ Some row → AreRowsOf made (with_row new rows)
 rows_like new row like [] [] are found = are

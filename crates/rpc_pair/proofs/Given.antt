@@ -57,7 +57,8 @@ bodies_count : (log : List Message) → length (map body_of log) ≡ length log
 bodies_count [] = refl
 bodies_count (a ∷ log) = ap suc (bodies_count log)
 
-none_whole : (log : List Message) → whole log 0 ≡ []
+-- no frame is whole in no bytes
+pub none_whole : (log : List Message) → whole log 0 ≡ []
 none_whole [] = refl
 none_whole (a ∷ log) = ap (λ b. if b then a ∷ whole log (0 - size a) else []) (le_false (size a) 0 (omega (arith, some_size a)))
 
@@ -83,6 +84,7 @@ parted got piece tail used =
     append_assoc got (take used piece) (drop used piece ++ tail)
     ∙ ap (λ s. got ++ s) (sym (append_assoc (take used piece) (drop used piece) tail) ∙ ap (λ s. s ++ tail) (take-append-drop used piece))
 
+-- the bytes of the front of a piece
 pub parted_bytes : (got piece : List ℕ) (used : ℕ) → Each IsByte (got ++ piece) → Each IsByte (got ++ take used piece)
 parted_bytes got piece used bytes =
     each-front IsByte (got ++ take used piece) (drop used piece)
@@ -120,6 +122,7 @@ module _ (r : Common) (is : IsOfSchema r) (log : List Message) (within : AreWith
         sym (bodies_are (most r) few got bs bytes (begun_bodies (most r) few got bs held are))
         ∙ bodies_are (most r) few got (came_bodies log (length got)) bytes (begun_bodies (most r) few got (came_bodies log (length got)) rest front)
 
+    -- so are those that an end took
     pub given_bodies : (e : EndState) (bs : List (List ℕ)) (came : List Message) → e.max ≡ most r → HasTaken e got bs came → bs ≡ came_bodies log (length got)
     given_bodies e bs came max took = given_are bs e.held (subst (λ m. AreBodies m got bs e.held) max took.bodies_are)
 

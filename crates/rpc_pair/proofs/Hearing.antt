@@ -20,6 +20,7 @@ use Rattle.rpc_pair.proofs.Tables.{stands_put}
 
 -- ---- what goes out
 
+-- what a server says to a query, by what it does with it
 abbrev pub says_by : ℤ → Heard → List Message
 says_by id does.Ignored = []
 says_by id (does.Answered a) = a ∷ []
@@ -51,6 +52,7 @@ module _ (r : Common) (s : ServerState) (t : Talk) (stands : ServerStands r s t)
 
   module _ (now : ℕ) (link : EndState) (q : Query) (result : Result (Option Arrival) CloseCause) (new : ServerState) (did : Does s now link (message.Query q) result new)
       (h : Heard) (is : query_heard s q ≡ h) (to : Talk) where
+    -- A query that does to the server what the talk does: the id stands so, all others as before, and as many are open. The server goes along.
     pub hears_query : (arrival : Option Arrival) → told q.id h ≡ Ok arrival → after_heard (standing s.table q.id) h ≡ standing_as r (find_query q.id to.queries)
         → ((other : ℤ) → int_eq q.id other ≡ false → find_query other to.queries ≡ find_query other t.queries)
         → open_queries to.queries + open_count (standing s.table q.id) ≡ open_queries t.queries + open_count (after_heard (standing s.table q.id) h)

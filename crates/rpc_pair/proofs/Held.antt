@@ -41,6 +41,7 @@ kept_got r c got come limits has log all =
 
 -- ---- what a dispatch received
 
+-- what a call holds is what its dispatch received
 pub held_received : (m : ℕ) (made : List Dispatch) (come : List Message) (d : Dispatch) (closed : Bool) → accepted m (all_called made) come ≡ come
     → held m (all_called made) come (called_by d) d.cut closed ≡ received m come closed d
 held_received m made come d closed all = ap (λ log. held_by (parts_of m d.desc (responses_of d.id log)) d.cut closed) all

@@ -1,3 +1,4 @@
+pub mod Basics
 pub mod Schemas
 pub mod Places
 pub mod AskReads
@@ -26,3 +27,5 @@ pub mod Choices
 pub mod ServerFeeds
 pub mod FeedMoments
 pub mod ClientFeeds
+pub mod Pieces
+pub mod StillTaken

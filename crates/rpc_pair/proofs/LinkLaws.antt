@@ -19,10 +19,12 @@ use Rattle.rpc_pair.specs.Stands.{all_said}
 
 -- ---- what goes out
 
+-- what is said is appended, frame by frame
 pub all_said_output : (e : EndState) (log : List Message) → (all_said e log).output ≡ e.output ++ frames (map body_of log)
 all_said_output e [] = sym (append-nil e.output)
 all_said_output e (a ∷ log) = all_said_output (said e a) log ∙ append_assoc e.output (frame (body_of a)) (frames (map body_of log))
 
+-- saying something leaves an end as its side is
 pub said_stands : (r : Common) (n : ℕ) (side : Side) (now : ℕ) (e : EndState) (log : List Message) → LinkStands r n side now e → LinkStands r n side now (all_said e log)
 said_stands r n side now e [] s = s
 said_stands r n side now e (a ∷ log) s = said_stands r n side now (said e a) log (record {
@@ -53,6 +55,7 @@ module _ (r : Common) (n : ℕ) (side : Side) (now : ℕ) (e : EndState) (s : Li
 
   -- ---- a later moment
 
+  -- so does a later moment
   pub later_stands : (at : ℕ) → now ≤ at → LinkStands r n side at e
   later_stands at le = record {
     max = s.max;
@@ -67,6 +70,7 @@ module _ (r : Common) (n : ℕ) (side : Side) (now : ℕ) (e : EndState) (s : Li
 
   -- ---- a close
 
+  -- it closes with its side, once, for the same cause
   pub shut_stands : (why : Reason) → LinkStands r n (close_side side why) now (shut e (cause_as why))
   shut_stands why = by side.cause refl
     where
@@ -93,9 +97,11 @@ module _ (r : Common) (n : ℕ) (side : Side) (now : ℕ) (e : EndState) (s : Li
 
   -- ---- a message was heard, or the header
 
+  -- the greatest moment that it has seen is now
   pub moment_now : moment e.beat now ≡ now
   moment_now = omega (arith, s.seen)
 
+  -- a frame was heard now, behind which the header has come
   pub heard_stands : (more : ℕ) → has_header (n + more) ≡ true → LinkStands r (n + more) (record { cause = side.cause; heard = now; sent = side.sent }) now (heard e now)
   heard_stands more header = record {
     max = s.max;

@@ -13,6 +13,7 @@ use Rattle.rpc_meeting.proofs.Sound.{IsSound}
 use Rattle.rpc_meeting.proofs.Whole.{whole_prefix}
 use Rattle.readers.specs.Reader.{Each}
 
+-- what is so of every id and message of the talk; no more dispatches are unfinished than may be; what the client got is a front of what goes down
 pub record Meets (r : Common) (t : Talk) (came got : List Message) : Type 0 where
   pub sound : IsSound r t came
   pub marks : AreMarked r t came
@@ -28,6 +29,7 @@ meets_good r w g =
     record { sound = g.sound; marks = g.marks; carried = g.carried; few = g.few; more = rest; down = cut }
 
 module _ (r : Common) (t : Talk) (came rest got : List Message) (a : Message) (cut : came ++ a ∷ rest ≡ t.ups) (meets : Meets r t came got) where
+  -- what the next message that goes up is
   pub next_up : IsUp r a
   next_up = next_each (IsUp r) came rest a (subst (Each (IsUp r)) (sym cut) meets.carried.ups)
 

@@ -59,6 +59,7 @@ module _ {X : Type 0} (R : X → X → Ordering) (order : IsTotalOrder R) (exact
   tail_sorted x xs up k d low within =
       subst (λ n. is_lt (R (get_or (x ∷ xs) n d) (get_or xs k d)) ≡ false) {x = suc k + 1} {y = suc (k + 1)} (omega arith) (up (suc k) d (omega arith) (omega (arith, within)))
 
+  -- lists in order that count each element alike are equal
   pub same_sorted : (xs ys : List X) → IsSorted R xs → IsSorted R ys → ((f : X → ℕ) → sum_by f xs ≡ sum_by f ys) → xs ≡ ys
   same_sorted [] [] up rise sums = refl
   same_sorted [] (y ∷ ys) up rise sums = absurd (omega (arith, sums (λ z. 1), sum_by-cons (λ z. 1) y ys))
@@ -86,6 +87,7 @@ listing_exact a b e =
 listing_total : IsTotalOrder listing_cmp
 listing_total = then_total (on_total (λ l. l.name) nat_list_cmp_total) (on_total (λ l. l.version) int_cmp_total)
 
+-- two menus of the same lines are equal
 pub menu_same : (es : List Entry) (ls ms : List Listing) → IsMenuOf es ls → IsMenuOf es ms → ls ≡ ms
 menu_same es ls ms one two =
     same_sorted listing_cmp listing_total listing_exact ls ms one.sorted two.sorted

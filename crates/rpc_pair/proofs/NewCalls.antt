@@ -36,9 +36,11 @@ use Rattle.rpc_pair.proofs.Tables.{one_is, open_pushed}
 
 -- ---- a query as it is made of its parts
 
+-- a query of its four parts
 abbrev pub query_made : List ℕ → ℤ → ℤ → List ℕ → Query
 query_made tag version id body = record { tag = tag; version = version; id = id; body = body }
 
+-- and one whose parts are known
 pub query_same : (q : Query) (name body : List ℕ) (version : ℤ) → q.tag ≡ name → q.version ≡ version → q.body ≡ body → q ≡ query_made name version q.id body
 query_same q name body version tag number bytes =
     ap (λ n. query_made n q.version q.id q.body) tag ∙ (ap (λ v. query_made name v q.id q.body) number ∙ ap (query_made name version q.id) bytes)
@@ -143,6 +145,7 @@ module _ (r : Common) (is : IsOfSchema r) (s : ServerState) (t : Talk) (came res
       (λ other apart. refl) same_count (sym (append-nil t.downs))
   answerer_goes (Handler d) e = handler_goes d e
 
+  -- A call that comes: the server does what its answerer does in the world, and goes along.
   pub call_goes : HearsAlong r link now t (heard_up r t (message.Query q)) result new
   call_goes =
       subst (λ to. HearsAlong r link now t to result new)

@@ -14,10 +14,10 @@ use Rattle.bp_value.proofs.Distinct.{distinct_head, distinct_tail}
 use Rattle.rpc_schema.specs.Choice.{is_offered}
 use Rattle.rpc_schema.specs.Entries.{listing_of}
 use Rattle.rpc_schema.specs.declared.desc.Entry.{Entry}
-use Rattle.rpc_schema.specs.declared.desc.Listing.{Listing}
 use Rattle.rpc_talk.specs.Acts.{Menu, Nobody, Line, is_menu, is_served, owner, owner_at}
 use Rattle.rpc_meeting.specs.Talks.{is_entry, line_named}
 use Rattle.rpc_meeting.proofs.Look.{no_some, some_is}
+use Rattle.rpc_pair.proofs.Basics.{both_true, listing_made}
 
 -- ---- a line that is answered
 
@@ -46,24 +46,16 @@ module _ (es : List Entry) (tag : List ℕ) (version : ℤ) (e : Entry) (here : 
   pub owner_line : is_menu tag version ≡ false → owner es tag version ≡ Line (position_or_len (is_served tag version) es)
   owner_line other = ap (λ b. if b then Menu else owner_at (position (is_served tag version) es)) other ∙ ap owner_at place_is
 
+-- the menu answers its own name and version
 pub owner_menu : (es : List Entry) (tag : List ℕ) (version : ℤ) → is_menu tag version ≡ true → owner es tag version ≡ Menu
 owner_menu es tag version is = ap (λ b. if b then Menu else owner_at (position (is_served tag version) es)) is
 
 -- ---- a line that is not answered
 
-listing : List ℕ → ℤ → Listing
-listing name version = record { name = name; version = version }
-
-both_true : (a b : Bool) → (a && b) ≡ true → (a ≡ true) × (b ≡ true)
-both_true true true e = (refl, refl)
-both_true true false e = absurd cc
-both_true false b e = absurd cc
-
-listing_is : (tag : List ℕ) (version : ℤ) (e : Entry) → is_entry tag version e ≡ true → listing_of e ≡ listing tag version
-unfolding listing
+listing_is : (tag : List ℕ) (version : ℤ) (e : Entry) → is_entry tag version e ≡ true → listing_of e ≡ listing_made tag version
 listing_is tag version e is =
     let (name, number) = both_true (bytes_eq e.desc.name tag) (int_eq e.desc.version version) is in
-    ap (λ n. listing n e.desc.version) ((bytes_eq-Decides e.desc.name tag).0 name) ∙ ap (listing tag) ((Decides-int_eq e.desc.version version).0 number)
+    ap (λ n. listing_made n e.desc.version) ((bytes_eq-Decides e.desc.name tag).0 name) ∙ ap (listing_made tag) ((Decides-int_eq e.desc.version version).0 number)
 
 -- no other line has its name and version
 none_named : (es : List Entry) (tag : List ℕ) (version : ℤ) (x : Entry) → is_entry tag version x ≡ true → IsNowhere (map listing_of es) (listing_of x) → line_named es tag version ≡ None
@@ -74,6 +66,7 @@ none_named (y ∷ es) tag version x is none = by (is_entry tag version y) refl (
     by true at later = absurd (none zero (ap Some (listing_is tag version y at ∙ sym (listing_is tag version x is))))
     by false at later = later
 
+-- no line, or one that only the caller has
 abbrev pub IsNotOffered : Option Entry → Type 0
 IsNotOffered None = Unit {0}
 IsNotOffered (Some e) = is_offered e.side ≡ false

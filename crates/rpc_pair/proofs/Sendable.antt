@@ -115,6 +115,7 @@ module _ (r : Common) (is : IsOfSchema r) where
   answer_spelled a (inr (inr (d, known, same))) =
       subst IsSpellableAnswer (sym same) (fitting_spellable (most r) a.id (unimplemented d.name d.version) (known_version d known))
 
+  -- it can be spelled
   pub down_spelled : (a : Message) → IsDown r a → IsSpellable a
   down_spelled message.Heartbeat down = tt
   down_spelled (message.Query q) down = absurd down
@@ -131,6 +132,7 @@ module _ (r : Common) (is : IsOfSchema r) where
   answer_short a (inr (inr (d, known, same))) =
       ap (λ x. is_short (most r) (response a.id x)) same ∙ fitting_short (most r) a.id (unimplemented d.name d.version) (omega (arith, room r is))
 
+  -- and has at most as many bytes as a message may have
   pub down_short : (a : Message) → IsDown r a → is_short (most r) a ≡ true
   down_short message.Heartbeat down =
       le_true (length (body_of message.Heartbeat)) (most r) (omega (arith, ap length bytes_heartbeat, room r is))
@@ -179,5 +181,6 @@ module _ (r : Common) (is : IsOfSchema r) where
     pub downs_within : AreWithin (most r) (map body_of t.downs)
     downs_within = log_within (IsDown r) down_spelled down_short t.downs c.downs
 
+    -- those that came whole among the first n bytes read as the header and the messages
     pub downs_opened : (n : ℕ) → AreOpened (most r) (came_bodies t.downs n) (came_log t.downs n)
     downs_opened n = came_opened (IsDown r) down_spelled down_short t.downs n c.downs

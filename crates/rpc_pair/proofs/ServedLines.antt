@@ -19,6 +19,7 @@ pub record IsAnswered (r : Common) (d : RpcDesc) : Type 0 where
   pub offered : is_offered entry.side ≡ true
 
 module _ (r : Common) (ok : IsOk r) where
+  -- the line of a procedure that a handler answers
   pub handler_line : (d desc : RpcDesc) → IsKnown r d → answerer r d.name d.version ≡ Handler desc → IsAnswered r d
   handler_line d desc (inl menu) by_it =
       let is_one : is_menu d.name d.version ≡ true = ap (λ (x : RpcDesc). is_menu x.name x.version) menu ∙ ok.own in
@@ -37,6 +38,7 @@ module _ (r : Common) (ok : IsOk r) where
       by true side = refl
       by false side = absurd (let line : Nobody ≡ Handler desc = sym (answers ∙ ap (λ b. answerer_by b e.desc) side) ∙ by_it in cc)
 
+  -- that of a query that the server keeps
   pub kept_line : (d : Dispatch) (q : Served) (asks came : List Ask) (answers : List Answer) → IsCall r d asks came (Some q) answers → IsAnswered r d.desc
   kept_line d q asks [] answers call = absurd (no_some q (sym (call.before refl).0))
   kept_line d q asks (x ∷ came) answers call = by (answerer r d.desc.name d.desc.version) refl (call.after x came refl)

@@ -44,6 +44,7 @@ all_taken : (e : EndState) (log : List Message) (given : List ℕ) (bs : List (L
 all_taken e [] given bs came took = took
 all_taken e (a ∷ log) given bs came took = all_taken (said e a) log given bs came (said_taken e a given bs came took)
 
+-- what is said leaves all else
 pub said_same : {A : Type 0} (f : EndState → A) → ((e : EndState) (a : Message) → f (said e a) ≡ f e) → (e : EndState) (log : List Message) → f (all_said e log) ≡ f e
 said_same f same e [] = refl
 said_same f same e (a ∷ log) = said_same f same (said e a) log ∙ same e a
@@ -56,6 +57,7 @@ part_same f holds hears old piece now used new (inr (body, ends, opening, opens,
 
 -- ---- a server that was given these bytes, of which these messages came
 
+-- it stands for the talk and is not closed; what it took of these bytes are these messages
 pub record IsServerAt (r : Common) (s : ServerState) (t : Talk) (given : List ℕ) (came got : List Message) : Type 0 where
   pub stands : ServerStands r s t
   pub meets : Meets r t came got
@@ -97,6 +99,7 @@ pub record MovesOn (r : Common) (now : ℕ) (s : ServerState) (t : Talk) (given 
   pub moments : (side : Side) → LinkStands r (length given) side now s.link
       → LinkStands r (length after) (side_behind t.ups side now (length given) (length after)) now new.link
 
+-- a feed: it moves on; it is closed by nothing; where memory ran out it is as it was
 abbrev pub FeedsAlong : Common → ℕ → ServerState → Talk → List ℕ → List ℕ → List Message → List Message → Result ServerFed FeedError → ServerState → Type 0
 FeedsAlong r now s t given piece came got (Ok fed) new = MovesOn r now s t given (given ++ take fed.used piece) came got new
 FeedsAlong r now s t given piece came got (Err (feed.Closed why)) new = ⊥

@@ -13,6 +13,7 @@ use Rattle.rpc_pair.proofs.MenuSame.{menu_same}
 abbrev rules_made : Limits → List Entry → List ℕ → Rules
 rules_made limits entries menu = record { limits = limits; entries = entries; menu = menu }
 
+-- A new server of a schema stands for the talk in which nothing was said.
 pub new_stands : (r : Common) (now : ℕ) (s : ServerState) → IsOfSchema r → IsNew r.entries r.limits now s → ServerStands r s first_talk
 new_stands r now s is new = record {
   rules =

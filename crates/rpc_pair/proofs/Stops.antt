@@ -1,5 +1,5 @@
 -- An abort that comes to a server stops the stream of its query where that goes on, and does nothing where it is over.
-use Rattle.std.proofs.Common.{◌≡◌, refl, sym, ap, ◌∙◌, subst, ℕ, ◌+◌, Bool, true, false, not, ◌&&◌, ◌||◌, if◌then◌else◌, List, [], ◌∷◌, ◌++◌, map, arith}
+use Rattle.std.proofs.Common.{◌≡◌, refl, sym, ap, ◌∙◌, subst, ℕ, ◌+◌, Bool, true, false, not, ◌&&◌, if◌then◌else◌, List, [], ◌∷◌, ◌++◌, map, arith}
 use Rattle.std.specs.Prelude.{Option, Some, None, Result}
 use Rattle.std.specs.List.{list_any}
 use Rattle.std.specs.Option.{option_map}
@@ -32,23 +32,24 @@ use Rattle.rpc_pair.proofs.Calls.{over_heard, stop_heard}
 use Rattle.rpc_pair.proofs.Hearing.{hears_query, query_is}
 use Rattle.rpc_pair.proofs.Meets.{Meets}
 use Rattle.rpc_pair.proofs.Tables.{one_is, one_open, open_changed}
-
-or_true : (b : Bool) → (b || true) ≡ true
-or_true true = refl
-or_true false = refl
+use Rattle.rpc_pair.proofs.Basics.{or_true}
 
 -- ---- how a query stands, by its tests
 
 module _ (r : Common) (p : Served) where
+  -- one that goes on is open
   pub going_stands : goes_on_still p ≡ true → standing_of_query r p ≡ Open (line_place r.entries p.desc) (is_begun p)
   going_stands e = ap (λ b. if b then Open (line_place r.entries p.desc) (is_begun p) else if is_stopped p then Stopped else Nowhere) e
 
+  -- one that is over is stopped or nowhere
   pub over_stands : goes_on_still p ≡ false → standing_of_query r p ≡ (if is_stopped p then Stopped else Nowhere)
   over_stands e = ap (λ b. if b then Open (line_place r.entries p.desc) (is_begun p) else if is_stopped p then Stopped else Nowhere) e
 
+  -- nowhere, where no abort stopped it or that was told
   pub quiet_stands : goes_on_still p ≡ false → is_stopped p ≡ false → standing_of_query r p ≡ Nowhere
   quiet_stands e s = over_stands e ∙ ap (λ b. if b then Stopped else Nowhere) s
 
+  -- stopped, where an abort did that and it was not told
   pub stopped_stands : goes_on_still p ≡ false → is_stopped p ≡ true → standing_of_query r p ≡ Stopped
   stopped_stands e s = over_stands e ∙ ap (λ b. if b then Stopped else Nowhere) s
 
@@ -129,6 +130,7 @@ module _ (r : Common) (is : IsOfSchema r) (s : ServerState) (t : Talk) (came res
     goes_here : HearsAlong r link now t (stopped t q.id) result new
     goes_here = subst (λ o. HearsAlong r link now t (stop_query t o) result new) (sym its.found) (stream_goes (goes_on_still p) refl)
 
+  -- An abort that comes: the server does what the world does, and goes along.
   pub abort_goes : HearsAlong r link now t (heard_up r t (message.Query q)) result new
   abort_goes =
       let (p, its) = abort_stream r is t came rest got meets q cut a abort in

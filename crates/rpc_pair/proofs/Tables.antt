@@ -14,6 +14,7 @@ use Rattle.rpc_pair.specs.Stands.{ServerStands, line_place, standing_as, standin
 
 -- ---- counts of open queries
 
+-- one for a query that is open
 abbrev pub one_if : Bool → ℕ
 one_if b = if b then 1 else 0
 
@@ -21,6 +22,7 @@ one_if b = if b then 1 else 0
 abbrev pub one_open : Served → ℕ
 one_open q = one_if (goes_on_still q)
 
+-- by what its test is
 pub one_is : (q : Served) (b : Bool) → goes_on_still q ≡ b → one_open q ≡ one_if b
 one_is q b e = ap one_if e
 
@@ -31,6 +33,7 @@ open_first q qs = by (goes_on_still q)
     by true = omega arith
     by false = omega arith
 
+-- one more query adds its part to the count
 pub open_pushed : (qs : List Served) (q : Served) → open_queries (qs ++ q ∷ []) ≡ open_queries qs + one_open q
 open_pushed [] q = omega (arith, open_first q [])
 open_pushed (x ∷ qs) q = omega (arith, open_first x (qs ++ q ∷ []), open_first x qs, open_pushed qs q)

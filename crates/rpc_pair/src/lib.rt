@@ -1,5 +1,5 @@
 //! Both ends of a connection as a pair: what is seen of each stands for the world of two ends.
 //!
 //! It has definitions (`specs/`) and proofs (`proofs/`) alone so far, and no code of its own: the
-//! answering end's public value against the world of `rpc_meeting`.
+//! public values of the server and the client against the world of `rpc_meeting`.
 #![tactic(auto)]
