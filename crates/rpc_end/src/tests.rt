@@ -99,3 +99,11 @@ fn names_what_is_at_fault_at_its_place(rt: HostRuntime) -> Result<(), Fail> {
     assert_eq!(rt; other.cause(), Some(&CloseCause::NoCommonProtocol));
     Ok(())
 }
+
+fn moves_to_a_thread<T: Send + Drop>(_value: T) {}
+
+#[test]
+fn an_end_moves_to_a_thread(rt: HostRuntime) -> Result<(), Fail> {
+    moves_to_a_thread(new(rt.alloc())?);
+    Ok(())
+}
