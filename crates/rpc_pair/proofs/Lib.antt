@@ -29,3 +29,4 @@ pub mod FeedMoments
 pub mod ClientFeeds
 pub mod Pieces
 pub mod StillTaken
+pub mod BothEnds
