@@ -30,3 +30,4 @@ pub mod ClientFeeds
 pub mod Pieces
 pub mod StillTaken
 pub mod BothEnds
+pub mod EndCalls
