@@ -31,3 +31,4 @@ pub mod Pieces
 pub mod StillTaken
 pub mod BothEnds
 pub mod EndCalls
+pub mod EndMoves
