@@ -1,5 +1,5 @@
 -- Movements, moments and closes keep that both ends stand for a world.
-use Rattle.std.proofs.Common.{◌≡◌, refl, sym, ap, ◌∙◌, subst, ℕ, ◌+◌, ◌-◌, ◌≤◌, max, List, [], ◌++◌, map, length, append_assoc, arith}
+use Rattle.std.proofs.Common.{Some, false, ◌≡◌, refl, sym, ap, ◌∙◌, subst, ℕ, ◌+◌, ◌-◌, ◌≤◌, max, List, [], ◌++◌, map, length, append_assoc, arith, Bool, true, nat_le, if◌then◌else◌}
 use Rattle.std.specs.Prelude.{fold}
 use Rattle.readers.specs.Reader.{Each, IsByte}
 use Rattle.rpc_frame.specs.Frames.{frames}
@@ -8,8 +8,8 @@ use Rattle.rpc_end.specs.Ends.{after_tick, shut}
 use Rattle.rpc_end.specs.Taken.{HasTaken}
 use Rattle.rpc_talk.specs.Acts.{body_of}
 use Rattle.rpc_meeting.specs.Talks.{Common, Talk, heard_up}
-use Rattle.rpc_meeting.specs.Worlds.{Reason, Side, World, arrived, close_side, come, first_world, flying, frame_count, header_size, heard_since, set_client, set_now, set_server, stream_of, tick_client, tick_server, up_piece, up_talk, whole}
-use Rattle.rpc_meeting.proofs.Goods.{IsGood, good_now, good_up, heard_all}
+use Rattle.rpc_meeting.specs.Worlds.{Reason, JournalFull, Side, World, arrived, boundary, close_side, come, first_world, flying, frame_count, header_size, heard_since, set_client, set_now, set_server, stream_of, tick_client, tick_server, up_piece, up_talk, whole, down_piece, is_shut, journal, took_bytes}
+use Rattle.rpc_meeting.proofs.Goods.{IsGood, good_now, good_up, heard_all, good_down}
 use Rattle.rpc_meeting.proofs.Moves.{good_close_client, good_close_server, good_tick_client, good_tick_server}
 use Rattle.rpc_meeting.proofs.Reached.{good}
 use Rattle.rpc_meeting.proofs.Whole.{whole_log_grows}
@@ -20,6 +20,7 @@ use Rattle.rpc_pair.specs.Callers.{AreRowsOf}
 use Rattle.rpc_pair.specs.Links.{LinkStands, beats, cause_as, ticked_side}
 use Rattle.rpc_pair.specs.Rules.{IsOfSchema}
 use Rattle.rpc_pair.specs.Stands.{ServerStands}
+use Rattle.rpc_pair.proofs.ClientFeeds.{GetsOn}
 use Rattle.rpc_pair.proofs.BothEnds.{EndsStand, stream_join}
 use Rattle.rpc_pair.proofs.LinkLaws.{client_ticked, first_stands, later_stands, server_ticked, shut_stands, tick_stands}
 use Rattle.rpc_pair.proofs.Pieces.{server_came, up_talk_is}
@@ -246,3 +247,42 @@ module _ (r : Common) (w : World) (c : ClientState) (s : ServerState) (up down :
 
       heard_by : ℕ → ℕ
       heard_by m = heard_from w.up m
+
+  -- and one goes down, where the client's journal has room for it
+  abbrev down_after : ℕ → Bool → World
+  down_after n b =
+      let took = if b then w.got + n else max w.got (boundary w.talk.downs journal) in
+      made w.talk w.up (w.down + n) took (record {
+        cause = if b then w.client.cause else Some (JournalFull (took_bytes w n));
+        heard = heard_since w.client w.now (frame_count w.talk.downs w.got) (frame_count w.talk.downs took);
+        sent = w.client.sent;
+      }) w.server w.now
+
+  down_is : (n : ℕ) → nat_le (w.got + n) journal ≡ true → down_piece w n ≡ down_after n true
+  down_is n room = ap (down_after n) room
+
+  pub down_ends : (after tail : List ℕ) (new : ClientState) (n : ℕ) → GetsOn r w.now c w.talk down after (arrived w) (come w) new → length after ≡ w.got + n
+      → is_shut w.client ≡ false → n ≤ flying w.talk.downs w.down → nat_le (w.got + n) journal ≡ true → after ++ tail ≡ stream_of w.talk.downs → EndsStand r (down_piece w n) new s up after
+  down_ends after tail new n gets count opened few room front =
+      subst (λ x. EndsStand r x new s up after) (sym (down_is n room)) (record {
+        good = subst (IsGood r) (down_is n room) (good_down r w ends.good opened n few);
+        client = gets.at.stands;
+        server = ends.server;
+        client_link =
+            subst (λ k. LinkStands r k (record { cause = w.client.cause; heard = heard_from w.got k; sent = w.client.sent }) w.now new.link) count
+            (subst (λ k. LinkStands r (length after) (record { cause = w.client.cause; heard = heard_from k (length after); sent = w.client.sent }) w.now new.link) ends.down_count
+            (gets.moments w.client (subst (λ k. LinkStands r k w.client w.now c.link) (sym ends.down_count) ends.client_link)));
+        server_link = ends.server_link;
+        up_count = ends.up_count;
+        down_count = count;
+        up_tail = ends.up_tail;
+        up_front = ends.up_front;
+        down_tail = tail;
+        down_front = front;
+        got = gets.at.got;
+        bodies = ends.bodies;
+        took = ends.took;
+      })
+    where
+      heard_from : ℕ → ℕ → ℕ
+      heard_from k m = heard_since w.client w.now (frame_count w.talk.downs k) (frame_count w.talk.downs m)
