@@ -124,6 +124,7 @@ pub record ActsOn (r : Common) (answer : StepAnswer) (w : World) (to : Stepped) 
   pub stream : stream_of to.world.talk.downs ≡ stream_of w.talk.downs ++ bytes
   pub output : new.link.output ≡ s.link.output ++ bytes
 
+-- so, or the server is as it was where memory ran out
 abbrev pub ActsOnAs : Option StepAnswer → Common → World → Stepped → ClientState → ServerState → ServerState → List ℕ → List ℕ → Type 0
 ActsOnAs (Some answer) r w to c s new up down = ActsOn r answer w to c s new up down
 ActsOnAs None r w to c s new up down = new ≡ s

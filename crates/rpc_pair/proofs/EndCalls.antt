@@ -83,6 +83,7 @@ pub record AsksOn (r : Common) (answer : StepAnswer) (w : World) (to : Stepped) 
   pub stream : stream_of to.world.talk.ups ≡ stream_of w.talk.ups ++ bytes
   pub output : new.link.output ≡ c.link.output ++ bytes
 
+-- so, or the client is as it was where memory ran out
 abbrev pub AsksOnAs : Option StepAnswer → Common → World → Stepped → ClientState → ClientState → ServerState → List ℕ → List ℕ → Type 0
 AsksOnAs (Some answer) r w to c new s up down = AsksOn r answer w to c new s up down
 AsksOnAs None r w to c new s up down = new ≡ c

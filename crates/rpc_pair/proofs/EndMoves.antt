@@ -4,7 +4,7 @@ use Rattle.std.specs.Prelude.{fold}
 use Rattle.readers.specs.Reader.{Each, IsByte}
 use Rattle.rpc_frame.specs.Frames.{frames}
 use Rattle.rpc_msg.specs.declared.message.Message.{Message}
-use Rattle.rpc_end.specs.Ends.{after_tick, shut}
+use Rattle.rpc_end.specs.Ends.{after_tick, shut, taken_out}
 use Rattle.rpc_end.specs.Taken.{HasTaken}
 use Rattle.rpc_talk.specs.Acts.{body_of}
 use Rattle.rpc_meeting.specs.Talks.{Common, Talk, heard_up}
@@ -14,7 +14,7 @@ use Rattle.rpc_meeting.proofs.Moves.{good_close_client, good_close_server, good_
 use Rattle.rpc_meeting.proofs.Reached.{good}
 use Rattle.rpc_meeting.proofs.Whole.{whole_log_grows}
 use Rattle.rpc_client.specs.Clients.{ClientState, first_client, with_link}
-use Rattle.rpc_client.proofs.Gots.{shut_got, start_got, tick_got}
+use Rattle.rpc_client.proofs.Gots.{shut_got, start_got, take_out_got, tick_got}
 use Rattle.rpc_server.specs.Servers.{ServerState, IsNew, with_end}
 use Rattle.rpc_pair.specs.Callers.{AreRowsOf}
 use Rattle.rpc_pair.specs.Links.{LinkStands, beats, cause_as, ticked_side}
@@ -27,7 +27,7 @@ use Rattle.rpc_pair.proofs.Pieces.{server_came, up_talk_is}
 use Rattle.rpc_pair.proofs.Schemas.{schema_ok}
 use Rattle.rpc_pair.proofs.ServerFeeds.{MovesOn, new_at}
 use Rattle.rpc_pair.proofs.Starts.{new_stands}
-use Rattle.rpc_pair.proofs.StillTaken.{link_stands, shut_taken, tick_taken}
+use Rattle.rpc_pair.proofs.StillTaken.{link_stands, out_stands, out_taken, shut_taken, tick_taken}
 
 abbrev made : Talk → ℕ → ℕ → ℕ → Side → Side → ℕ → World
 made talk up down got client server now = record { talk = talk; up = up; down = down; got = got; client = client; server = server; now = now }
@@ -66,6 +66,7 @@ first_ends r s is new = record {
 module _ (r : Common) (w : World) (c : ClientState) (s : ServerState) (up down : List ℕ) (ends : EndsStand r w c s up down) where
   -- ---- closes
 
+  -- the client closes
   pub close_client_ends : (why : Reason) → EndsStand r (set_client w (close_side w.client why)) (with_link c (shut c.link (cause_as why))) s up down
   close_client_ends why = record {
     good = good_close_client r w ends.good why;
@@ -84,6 +85,7 @@ module _ (r : Common) (w : World) (c : ClientState) (s : ServerState) (up down :
     took = ends.took;
   }
 
+  -- the server closes
   pub close_server_ends : (why : Reason) → EndsStand r (set_server w (close_side w.server why)) c (with_end s (shut s.link (cause_as why))) up down
   close_server_ends why = record {
     good = good_close_server r w ends.good why;
@@ -102,8 +104,49 @@ module _ (r : Common) (w : World) (c : ClientState) (s : ServerState) (up down :
     took = shut_taken s.link up ends.bodies (arrived w) ends.took (cause_as why);
   }
 
+  -- ---- output is taken
+
+  -- that of the client, which goes to the wire up
+  pub out_client_ends : (count : ℕ) → EndsStand r w (with_link c (taken_out c.link count)) s up down
+  out_client_ends count = record {
+    good = ends.good;
+    client = record { limits = ends.client.limits; rows = ends.client.rows };
+    server = ends.server;
+    client_link = out_stands r w.got w.client w.now c.link count ends.client_link;
+    server_link = ends.server_link;
+    up_count = ends.up_count;
+    down_count = ends.down_count;
+    up_tail = ends.up_tail;
+    up_front = ends.up_front;
+    down_tail = ends.down_tail;
+    down_front = ends.down_front;
+    got = take_out_got c count down ends.got;
+    bodies = ends.bodies;
+    took = ends.took;
+  }
+
+  -- and that of the server
+  pub out_server_ends : (count : ℕ) → EndsStand r w c (with_end s (taken_out s.link count)) up down
+  out_server_ends count = record {
+    good = ends.good;
+    client = ends.client;
+    server = link_stands r s w.talk (taken_out s.link count) ends.server;
+    client_link = ends.client_link;
+    server_link = out_stands r w.up w.server w.now s.link count ends.server_link;
+    up_count = ends.up_count;
+    down_count = ends.down_count;
+    up_tail = ends.up_tail;
+    up_front = ends.up_front;
+    down_tail = ends.down_tail;
+    down_front = ends.down_front;
+    got = ends.got;
+    bodies = ends.bodies;
+    took = out_taken s.link up ends.bodies (arrived w) ends.took count;
+  }
+
   -- ---- moments
 
+  -- it is later
   pub now_ends : (n : ℕ) → EndsStand r (set_now w (max w.now n)) c s up down
   now_ends n = record {
     good = good_now r w ends.good (max w.now n);
@@ -143,6 +186,7 @@ module _ (r : Common) (w : World) (c : ClientState) (s : ServerState) (up down :
   client_same : tick_client r w ≡ client_after
   client_same = let (client, talk, server, moved, came, took, now) = client_ticked r w in world_same (tick_client r w) client_after talk moved came took client server now
 
+  -- A moment of the client keeps that the ends stand for the world.
   pub client_tick_ends : EndsStand r (tick_client r w) (with_link c (after_tick c.link w.now)) s up down
   client_tick_ends =
       let (link, output) = tick_stands r w.got w.client w.now c.link ends.client_link in
@@ -186,6 +230,7 @@ module _ (r : Common) (w : World) (c : ClientState) (s : ServerState) (up down :
   server_same : tick_server r w ≡ server_after
   server_same = let (server, talk, client, moved, came, took, now) = server_ticked r w in world_same (tick_server r w) server_after talk moved came took client server now
 
+  -- So does one of the server.
   pub server_tick_ends : EndsStand r (tick_server r w) c (with_end s (after_tick s.link w.now)) up down
   server_tick_ends =
       let (link, output) = tick_stands r w.up w.server w.now s.link ends.server_link in
@@ -261,6 +306,7 @@ module _ (r : Common) (w : World) (c : ClientState) (s : ServerState) (up down :
   down_is : (n : ℕ) → nat_le (w.got + n) journal ≡ true → down_piece w n ≡ down_after n true
   down_is n room = ap (down_after n) room
 
+  -- Feeds of what came down are one piece down.
   pub down_ends : (after tail : List ℕ) (new : ClientState) (n : ℕ) → GetsOn r w.now c w.talk down after (arrived w) (come w) new → length after ≡ w.got + n
       → is_shut w.client ≡ false → n ≤ flying w.talk.downs w.down → nat_le (w.got + n) journal ≡ true → after ++ tail ≡ stream_of w.talk.downs → EndsStand r (down_piece w n) new s up after
   down_ends after tail new n gets count opened few room front =
