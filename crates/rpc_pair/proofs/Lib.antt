@@ -29,3 +29,6 @@ pub mod FeedMoments
 pub mod ClientFeeds
 pub mod Pieces
 pub mod StillTaken
+pub mod BothEnds
+pub mod EndCalls
+pub mod EndMoves

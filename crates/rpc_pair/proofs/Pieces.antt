@@ -64,7 +64,8 @@ sides_join log side now a b c le more =
 
 -- ---- two feeds
 
-log_join : (a b : List Message) → frames (map body_of (a ++ b)) ≡ frames (map body_of a) ++ frames (map body_of b)
+-- the frames of a log, and of what follows it
+pub log_join : (a b : List Message) → frames (map body_of (a ++ b)) ≡ frames (map body_of a) ++ frames (map body_of b)
 log_join [] b = refl
 log_join (x ∷ a) b = ap (λ l. frame (body_of x) ++ l) (log_join a b) ∙ sym (append_assoc (frame (body_of x)) (frames (map body_of a)) (frames (map body_of b)))
 

@@ -40,7 +40,8 @@ use Rattle.rpc_pair.proofs.Starts.{new_stands}
 
 -- ---- what goes out changes nothing of what was taken
 
-all_taken : (e : EndState) (log : List Message) (given : List ℕ) (bs : List (List ℕ)) (came : List Message) → HasTaken e given bs came → HasTaken (all_said e log) given bs came
+-- some messages
+pub all_taken : (e : EndState) (log : List Message) (given : List ℕ) (bs : List (List ℕ)) (came : List Message) → HasTaken e given bs came → HasTaken (all_said e log) given bs came
 all_taken e [] given bs came took = took
 all_taken e (a ∷ log) given bs came took = all_taken (said e a) log given bs came (said_taken e a given bs came took)
 
