@@ -70,10 +70,13 @@ pub enum Event {
     At {
         now: u64,
     },
+    /// The client closes.
     CloseClient,
+    /// The server closes.
     CloseServer,
     /// The client is told that its input has ended.
     EofClient,
+    /// The server is told that its input has ended.
     EofServer,
     /// The lines of the dispatch are written.
     Show {

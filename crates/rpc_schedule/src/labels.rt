@@ -18,7 +18,7 @@ use std::alloc::Global;
 const MAX_LABEL: usize = 64;
 
 /// A label, and the text of a value.
-#[derive(Debug, Drop)]
+#[derive(Drop)]
 pub struct Worded {
     pub label: Blob,
     pub text: Blob,

@@ -13,7 +13,7 @@ const MAX_COUNT: u64 = (1 << 62) - 1;
 const MAX_PIECE: u64 = 65536;
 
 /// How many bytes move, or all, and the most bytes of a piece.
-#[derive(Clone, Copy, Debug, PartialEq, Eq)]
+#[derive(Clone, Copy)]
 pub struct Movement {
     pub count: Option<u64>,
     pub by: u64,

@@ -10,7 +10,7 @@ ghost use Rattle.rpc_schedule.specs.declared.words.Party.{Party};
 use rpc_schema::{Line, Stop};
 
 /// The first word of an event's line, by what stands after it.
-#[derive(Clone, Copy, Debug, PartialEq, Eq)]
+#[derive(Clone, Copy)]
 pub enum Verb {
     Ask,
     Best,
@@ -23,7 +23,7 @@ pub enum Verb {
 }
 
 /// A word that a label alone stands after.
-#[derive(Clone, Copy, Debug, PartialEq, Eq)]
+#[derive(Clone, Copy)]
 pub enum OfLabel {
     Menu,
     Abort,
@@ -32,7 +32,7 @@ pub enum OfLabel {
 }
 
 /// A word that a label and a value stand after.
-#[derive(Clone, Copy, Debug, PartialEq, Eq)]
+#[derive(Clone, Copy)]
 pub enum OfValue {
     Reply,
     Begin,
@@ -41,21 +41,21 @@ pub enum OfValue {
 }
 
 /// Which way bytes move.
-#[derive(Clone, Copy, Debug, PartialEq, Eq)]
+#[derive(Clone, Copy)]
 pub enum Way {
     Up,
     Down,
 }
 
 /// A word that an end stands after.
-#[derive(Clone, Copy, Debug, PartialEq, Eq)]
+#[derive(Clone, Copy)]
 pub enum OfParty {
     Close,
     Eof,
 }
 
 /// One of the two ends.
-#[derive(Clone, Copy, Debug, PartialEq, Eq)]
+#[derive(Clone, Copy)]
 pub enum Party {
     Client,
     Server,
