@@ -234,18 +234,13 @@ fn is_closed_by_what_is_no_message(rt: HostRuntime) -> Result<(), Fail> {
         at: 18,
         why: Why::Case,
     };
-    assert_eq!(rt; closed_by(alloc, &[3])?, Some(CloseCause::BadMessage(fault)));
+    assert_eq!(rt;
+        closed_by(alloc, &[3])?,
+        Some(CloseCause::BadMessage(fault))
+    );
     let fault = MsgFault::Cut { at: 18 };
     assert_eq!(rt; closed_by(alloc, &[])?, Some(CloseCause::BadMessage(fault)));
     let stranger = Some(CloseCause::UnknownId { id: 0 });
     assert_eq!(rt; closed_by(alloc, &[2, 0, 0, 1, 0])?, stranger);
-    Ok(())
-}
-
-fn moves_to_a_thread<T: Send + Drop>(_value: T) {}
-
-#[test]
-fn a_client_moves_to_a_thread(rt: HostRuntime) -> Result<(), Fail> {
-    moves_to_a_thread(open(rt.alloc(), 8)?);
     Ok(())
 }

@@ -262,11 +262,3 @@ fn an_id_is_open_once(rt: HostRuntime) -> Result<(), Fail> {
     assert_eq!(rt; first_odd(alloc, &mut server, &turns)?, None);
     Ok(())
 }
-
-fn moves_to_a_thread<T: Send + Drop>(_value: T) {}
-
-#[test]
-fn a_server_moves_to_a_thread(rt: HostRuntime) -> Result<(), Fail> {
-    moves_to_a_thread(open(rt.alloc(), Limits::usual())?);
-    Ok(())
-}

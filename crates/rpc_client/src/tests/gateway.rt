@@ -86,6 +86,11 @@ fn a_gateway_calls_over_its_socket(rt: HostRuntime) -> Result<(), Fail> {
     };
     assert_eq!(rt; socket.written[..10], HEADER[..]);
     assert_eq!(rt; socket.written[10..], ASKED[..]);
-    assert!(rt; matches!(client.take(&ticket), Took::Ended(Ending::Reply(Value::Text(_)))));
+    assert!(rt;
+        matches!(
+            client.take(&ticket),
+            Took::Ended(Ending::Reply(Value::Text(_)))
+        )
+    );
     Ok(())
 }
