@@ -1,0 +1,10 @@
+-- The label, and what follows it.
+use Rattle.rpc_schema.specs.LineParts.{Lacks}
+use Rattle.rpc_schedule.specs.EventParts.{IsLabel, IsAskUnder, AskUnderRefused}
+use Rattle.rpc_schema.proofs.PartLaws.{second_takes}
+use Rattle.rpc_schedule.proofs.event_lines.take_ask.Goals as goal
+
+pub returns : goal.returns
+returns c =
+    second_takes IsLabel (Lacks IsLabel) IsAskUnder (λ label. AskUnderRefused) c.in_ok-label.label c.args.line.now c.take_label.new.line
+    c.take_ask_under.new.line c.take_ask_under.result c.in_ok-label.ensures c.take_ask_under.ensures

@@ -1,0 +1,11 @@
+-- The part, and more after it.
+use Rattle.std.proofs.Common.{rules}
+use Rattle.rpc_schema.specs.LineParts.{Next, Known, Lacks, End}
+use Rattle.rpc_schedule.specs.EventParts.{IsParty}
+use Rattle.rpc_schema.proofs.PartLaws.{second_stops}
+use Rattle.rpc_schedule.proofs.event_lines.take_last_party.Goals as goal
+
+pub returns-in_err-end : goal.returns-in_err-end
+returns-in_err-end c =
+    second_stops IsParty (Lacks IsParty) (λ a. Next End (λ e. Known a)) (λ a. Lacks End) End c.in_ok-party.party c.args.line.now c.take_party.new.line
+    c.end.new.self c.in_err-end.field-0.0 c.from_residual-in_err-end.result (search rules) c.in_ok-party.ensures c.in_err-end.ensures

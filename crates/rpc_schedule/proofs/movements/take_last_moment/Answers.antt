@@ -1,0 +1,11 @@
+-- The part, and more after it.
+use Rattle.std.proofs.Common.{rules}
+use Rattle.rpc_schema.specs.LineParts.{Next, Known, Lacks, End}
+use Rattle.rpc_schedule.specs.EventParts.{IsMoment}
+use Rattle.rpc_schema.proofs.PartLaws.{second_stops}
+use Rattle.rpc_schedule.proofs.movements.take_last_moment.Goals as goal
+
+pub returns-in_err-end : goal.returns-in_err-end
+returns-in_err-end c =
+    second_stops IsMoment (Lacks IsMoment) (λ a. Next End (λ e. Known a)) (λ a. Lacks End) End c.in_ok-now.now c.args.line.now c.take_moment.new.line
+    c.end.new.self c.in_err-end.field-0.0 c.from_residual-in_err-end.result (search rules) c.in_ok-now.ensures c.in_err-end.ensures

@@ -1,0 +1,4 @@
+pub mod EventParts
+pub mod EventLines
+pub mod Schedules
+pub mod Reading
