@@ -10,8 +10,8 @@ use thiserror::Error;
 #[derive(Debug, Clone, Copy, PartialEq, Eq, Error)]
 pub enum ScheduleError {
     /// The token of the line that begins at `at` cannot stand there, or does not suit. Where the
-    /// line ends too early, `at` is its length. Where `--` is missing, it is the place 0 of the line
-    /// after the last.
+    /// line ends too early, `at` is its length. Where `--` is missing, it is the place 0 of the
+    /// line after the last.
     #[error("line {line} is refused at {at}")]
     BadLine { line: u64, at: usize },
     /// The line of the schema has the name and the version of an earlier one.
