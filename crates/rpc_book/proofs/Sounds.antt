@@ -1,5 +1,5 @@
 -- What holds of every book.
-use Rattle.std.proofs.Common.{◌≡◌, refl, sym, ap, ◌∙◌, ℕ, List, [], ◌∷◌}
+use Rattle.std.proofs.Common.{◌≡◌, refl, sym, ap, ◌∙◌, subst, ℕ, List, [], ◌∷◌}
 use Rattle.std.specs.Prelude.{None}
 use Rattle.rpc_frame.specs.Streams.{bodies}
 use Rattle.rpc_msg.specs.declared.message.Message.{Message}
@@ -8,7 +8,7 @@ use Rattle.rpc_talk.specs.Causes.{cause_of}
 use Rattle.rpc_talk.specs.Opened.{AreOpened}
 use Rattle.rpc_talk.proofs.StreamCauses.{no_frame_cause}
 use Rattle.rpc_end.specs.Ends.{is_closed}
-use Rattle.rpc_end.specs.Taken.{has_first}
+use Rattle.rpc_end.specs.Taken.{HasTaken, has_first}
 use Rattle.rpc_end.proofs.Taken.{limit_few}
 use Rattle.rpc_client.specs.Clients.{ClientState}
 use Rattle.rpc_client.specs.Kept.{IsGoing, IsKept, accepted_of as client_accepted, row_calls}
@@ -45,12 +45,11 @@ module _ (c : ClientState) (made : List Made) (got : List ℕ) (is : IsBook c ma
   no_fault : c.link.cause ≡ None → HasNoFault (book_of c made got)
   no_fault open_ =
       let going = is.has.going open_ in
-      let first = ap has_first (sym (bodies_same going)) in
       let opened = opened_first c.link.max going.bodies going.log going.took.read in
       record {
+        took = subst (λ bs. HasTaken c.link got bs (messages_of (book_of c made got))) (sym (bodies_same going)) (subst (HasTaken c.link got going.bodies) (sym (log_same going)) going.took);
         accepted = all_same going ∙ sym (log_same going);
         fault = fault_same got ∙ fine c got open_ is.has;
-        greeted = going.took.greeted ∙ first;
         header = going.took.greeted ∙ (opened ∙ (ap (λ n. begins n going.bodies) is.has.max ∙ ap (begins c.limits.max_message) (sym (bodies_same going))));
       }
 

@@ -13,7 +13,7 @@ use Rattle.rpc_talk.specs.Causes.{cause_of}
 use Rattle.rpc_talk.specs.Parts.{CallParts, Held, parts_of}
 use Rattle.rpc_talk.specs.Welcome.{Call, accepted, held}
 use Rattle.rpc_end.specs.Ends.{EndState, first_end, is_closed}
-use Rattle.rpc_end.specs.Taken.{has_first}
+use Rattle.rpc_end.specs.Taken.{HasTaken}
 use Rattle.rpc_client.specs.Kept.{IsCutWithin}
 use Rattle.rpc_book.specs.declared.made.Made.{Made}
 
@@ -98,11 +98,12 @@ pub record IsSoundBooked (b : BookState) (d : Booked) : Type 0 where
   pub cut : IsCutWithin d.made.cut (parts_booked b d).parts
   pub handed : d.handed ≡ true → (drop d.made.taken (held_in b d).parts ≡ []) × (is_some (held_in b d).ending ≡ true)
 
--- while it has no cause no byte is at fault and all messages are accepted; a first body, if there is one, is the header
+-- while it has no cause its end took just these bytes, with their bodies and messages; all messages are accepted, no byte is at fault, and a first
+-- body is the header
 pub record HasNoFault (b : BookState) : Type 0 where
+  pub took : HasTaken b.link b.got (bodies b.limits.max_message b.got) (messages_of b)
   pub accepted : accepted_in b ≡ messages_of b
   pub fault : fault_of b ≡ None
-  pub greeted : b.link.greeted ≡ has_first (bodies b.limits.max_message b.got)
   pub header : b.link.greeted ≡ got_header b
 
 pub record IsSound (b : BookState) : Type 0 where

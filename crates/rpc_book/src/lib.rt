@@ -21,6 +21,8 @@
 
 mod book;
 mod made;
+#[cfg(test)]
+mod tests;
 
 pub use book::Book;
 pub use made::Made;
