@@ -65,10 +65,12 @@ fn open(alloc: Global, limits: Limits) -> Result<Server, Fail>
 /// What a handler does to a query.
 #[derive(Clone, Copy)]
 enum Do<'a> {
-    Reply(&'a Value),
+    /// It replies with a text.
+    Reply(&'a [u8]),
+    ReplyUnit,
     Fail(&'a [u8]),
-    Begin(&'a Value),
-    Item(&'a Value),
+    BeginUnit,
+    Item(i64),
     End,
 }
 
@@ -113,14 +115,21 @@ fn comes(alloc: Global, server: &mut Server, body: &[u8]) -> Result<Told, OutOfM
     Ok(as_told(server.feed(&frame, 0)))
 }
 
-fn acts(server: &mut Server, id: i64, what: &Do<'_>) -> Result<(), ActError> {
-    match what {
-        Do::Reply(value) => server.reply(id, value),
+fn acts(
+    alloc: Global,
+    server: &mut Server,
+    id: i64,
+    what: Do<'_>,
+) -> Result<Result<(), ActError>, OutOfMemory> {
+    let acted = match what {
+        Do::Reply(text) => server.reply(id, &Value::Text(Blob::from_slice(alloc, text)?)),
+        Do::ReplyUnit => server.reply(id, &Value::Unit),
         Do::Fail(text) => server.fail(id, text),
-        Do::Begin(value) => server.begin(id, value),
-        Do::Item(value) => server.item(id, value),
+        Do::BeginUnit => server.begin(id, &Value::Unit),
+        Do::Item(number) => server.item(id, &Value::Num(number)),
         Do::End => server.end(id),
-    }
+    };
+    Ok(acted)
 }
 
 /// Whether the frames of these bodies go out, and nothing else.
@@ -143,7 +152,7 @@ fn first_odd(
     for (at, turn) in turns.iter().enumerate() {
         let goes = match turn {
             Turn::Comes(body, want) => comes(alloc, server, body)? == *want,
-            Turn::Acts(id, what, want) => acts(server, *id, what) == *want,
+            Turn::Acts(id, what, want) => acts(alloc, server, *id, *what)? == *want,
             Turn::Says(bodies) => says(alloc, server, bodies)?,
         };
         if !goes {
@@ -153,24 +162,19 @@ fn first_odd(
     Ok(None)
 }
 
-fn text(alloc: Global, bytes: &[u8]) -> Result<Value, OutOfMemory> {
-    Ok(Value::Text(Blob::from_slice(alloc, bytes)?))
-}
-
 const ASKED: Told = Told::Asked { id: 0, place: 0 };
 
 #[test]
 fn a_query_is_asked_and_answered(rt: HostRuntime) -> Result<(), Fail> {
     let alloc = rt.alloc();
     let mut server = open(alloc, Limits::usual())?;
-    let hi = text(alloc, b"hi")?;
     let turns = [
         Turn::Comes(&ECHO, ASKED),
-        Turn::Acts(2, Do::Reply(&hi), Err(ActError::NoSuch)),
-        Turn::Acts(0, Do::Begin(&hi), Err(ActError::WrongKind)),
-        Turn::Acts(0, Do::Reply(&Value::Unit), Err(ActError::BadValue)),
-        Turn::Acts(0, Do::Reply(&hi), Ok(())),
-        Turn::Acts(0, Do::Reply(&hi), Err(ActError::NoSuch)),
+        Turn::Acts(2, Do::Reply(b"hi"), Err(ActError::NoSuch)),
+        Turn::Acts(0, Do::BeginUnit, Err(ActError::WrongKind)),
+        Turn::Acts(0, Do::ReplyUnit, Err(ActError::BadValue)),
+        Turn::Acts(0, Do::Reply(b"hi"), Ok(())),
+        Turn::Acts(0, Do::Reply(b"hi"), Err(ActError::NoSuch)),
         Turn::Says(&[REPLY]),
         Turn::Comes(&ECHO, ASKED),
         Turn::Acts(0, Do::Fail(b"boom"), Ok(())),
@@ -187,12 +191,12 @@ fn an_abort_stops_a_stream_that_has_begun(rt: HostRuntime) -> Result<(), Fail> {
     let turns = [
         Turn::Comes(&EACH, Told::Asked { id: 0, place: 1 }),
         Turn::Comes(&ABORT, Told::Nothing),
-        Turn::Acts(0, Do::Item(&Value::Num(1)), Err(ActError::NotBegun)),
-        Turn::Acts(0, Do::Begin(&Value::Unit), Ok(())),
-        Turn::Acts(0, Do::Begin(&Value::Unit), Err(ActError::AlreadyBegun)),
-        Turn::Acts(0, Do::Item(&Value::Num(1)), Ok(())),
+        Turn::Acts(0, Do::Item(1), Err(ActError::NotBegun)),
+        Turn::Acts(0, Do::BeginUnit, Ok(())),
+        Turn::Acts(0, Do::BeginUnit, Err(ActError::AlreadyBegun)),
+        Turn::Acts(0, Do::Item(1), Ok(())),
         Turn::Comes(&ABORT, Told::Stopped { id: 0 }),
-        Turn::Acts(0, Do::Item(&Value::Num(2)), Err(ActError::Stopped)),
+        Turn::Acts(0, Do::Item(2), Err(ActError::Stopped)),
         Turn::Acts(0, Do::End, Err(ActError::NoSuch)),
         Turn::Says(&ABORTED),
     ];

@@ -66,9 +66,10 @@ const PIECES: [&[u8]; 5] = [
     &[0x69],
 ];
 
-/// The frame of the call of `echo` with "hi".
-const ASKED: [u8; 20] = [
-    12, 0, 0, 0, 0, 0, 0, 0, 1, 4, 0x65, 0x63, 0x68, 0x6F, 1, 0, 3, 2, 0x68, 0x69,
+/// The frames of its own header and of the call of `echo` with "hi".
+const WRITTEN: [u8; 30] = [
+    2, 0, 0, 0, 0, 0, 0, 0, 1, 1, 12, 0, 0, 0, 0, 0, 0, 0, 1, 4, 0x65, 0x63, 0x68, 0x6F, 1, 0, 3,
+    2, 0x68, 0x69,
 ];
 
 #[test]
@@ -84,8 +85,7 @@ fn a_gateway_calls_over_its_socket(rt: HostRuntime) -> Result<(), Fail> {
     let Some(ticket) = drive(&mut client, &mut socket, &plain, &query)? else {
         return Err(Fail::new("nothing was asked"));
     };
-    assert_eq!(rt; socket.written[..10], HEADER[..]);
-    assert_eq!(rt; socket.written[10..], ASKED[..]);
+    assert_eq!(rt; socket.written.as_slice(), WRITTEN.as_slice());
     assert!(rt;
         matches!(
             client.take(&ticket),

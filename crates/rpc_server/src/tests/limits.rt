@@ -30,11 +30,10 @@ fn no_message_is_longer_than_the_limit(rt: HostRuntime) -> Result<(), Fail> {
     let alloc = rt.alloc();
     let mut server = open(alloc, small())?;
     let long = letters(alloc, 1020)?;
-    let value = text(alloc, &long)?;
     let too_long = Err(ActError::TooLong { max: 1024 });
     let turns = [
         Turn::Comes(&ECHO, ASKED),
-        Turn::Acts(0, Do::Reply(&value), too_long),
+        Turn::Acts(0, Do::Reply(&long), too_long),
         Turn::Acts(0, Do::Fail(&long), too_long),
         Turn::Says(&[]),
     ];
