@@ -72,6 +72,27 @@ const WRITTEN: [u8; 30] = [
     2, 0x68, 0x69,
 ];
 
+fn ask_echo(
+    alloc: Global,
+    client: &mut Client,
+    socket: &mut Socket<'_>,
+) -> Result<Option<Ticket>, Fail> {
+    let plain = echo(alloc, Kind::Plain)?;
+    let query = hi(alloc)?;
+    drive(client, socket, &plain, &query)
+}
+
+/// Whether a text came as the reply.
+fn is_replied(client: &mut Client, asked: Option<Ticket>) -> bool {
+    match asked {
+        Some(ticket) => matches!(
+            client.take(&ticket),
+            Took::Ended(Ending::Reply(Value::Text(_)))
+        ),
+        None => false,
+    }
+}
+
 #[test]
 fn a_gateway_calls_over_its_socket(rt: HostRuntime) -> Result<(), Fail> {
     let alloc = rt.alloc();
@@ -80,17 +101,8 @@ fn a_gateway_calls_over_its_socket(rt: HostRuntime) -> Result<(), Fail> {
         pieces: &PIECES,
         written: Vec::new(alloc),
     };
-    let plain = echo(alloc, Kind::Plain)?;
-    let query = hi(alloc)?;
-    let Some(ticket) = drive(&mut client, &mut socket, &plain, &query)? else {
-        return Err(Fail::new("nothing was asked"));
-    };
-    assert_eq!(rt; socket.written.as_slice(), WRITTEN.as_slice());
-    assert!(rt;
-        matches!(
-            client.take(&ticket),
-            Took::Ended(Ending::Reply(Value::Text(_)))
-        )
-    );
+    let asked = ask_echo(alloc, &mut client, &mut socket)?;
+    assert!(rt; socket.written.as_slice() == WRITTEN.as_slice());
+    assert!(rt; is_replied(&mut client, asked));
     Ok(())
 }
