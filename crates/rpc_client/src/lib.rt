@@ -9,7 +9,7 @@
 //! while client.cause().is_none() {
 //!     let piece = socket.read(&mut space)?;       // of any size, cut anywhere
 //!     let now = clock.now();
-//!     client.tick(now)?;                          // a heartbeat, or the close of a silent connection
+//!     client.tick(now)?;                          // a heartbeat, or a close after silence
 //!     if client.is_open() {
 //!         for (desc, query) in asked.take() {
 //!             tickets.push(client.dispatch(&desc, &query)?)?;
@@ -27,8 +27,8 @@
 //! }
 //! ```
 //!
-//! The test `a_gateway_calls_over_its_socket` (`src/tests/gateway.rt`) runs these steps over a socket
-//! in memory.
+//! The test `a_gateway_calls_over_its_socket` (`src/tests/gateway.rt`) runs these steps over a
+//! socket in memory.
 #![tactic(auto)]
 
 mod asking;

@@ -18,7 +18,7 @@
 //!             server.reply(id, &handle(place, query))?;
 //!         }
 //!     }
-//!     server.tick(now)?;                          // a heartbeat, or the close of a silent connection
+//!     server.tick(now)?;                          // a heartbeat, or a close after silence
 //!     let count = server.take_out(&mut buffer);   // the header first, then answers
 //!     socket.write(&buffer[..count])?;
 //! }

@@ -145,7 +145,7 @@ impl Server {
         self.tell(id, Telling::Decline, error)
     }
 
-    /// GivesBytes an item of a stream that has begun.
+    /// Gives an item of a stream that has begun.
     pub fn item(&mut self, id: i64, value: &Value) -> Result<(), ActError>
         ensures { IsActed self.old id (act.Give value.now) result self.new }
     {
