@@ -3,6 +3,7 @@ ghost use Rattle.std.specs.Prelude.{◌≡◌, ◌+◌, ◌++◌, ◌≤◌, map
 ghost use Rattle.rpc_msg.specs.declared.shared.CloseCause.TheVariants as cause;
 ghost use Rattle.rpc_msg.specs.Limits.{AreLimits};
 ghost use Rattle.rpc_end.specs.Ends.{after_tick, is_link_open, out_count, shut, taken_out, tick_answer, wanted_of, WouldTakeOf};
+ghost use Rattle.rpc_end.specs.Taking.{TakesSome};
 ghost use Rattle.rpc_client.specs.Clients.{IsClientFed};
 ghost use Rattle.rpc_client.specs.Kept.{FeedsGot};
 ghost use Rattle.rpc_client.specs.Rows.{IsCallable};
@@ -101,6 +102,7 @@ impl Book {
     /// that came before, none is taken, and the book closes with `JournalFull`.
     pub fn feed(&mut self, piece: &[u8], now: u64) -> Result<usize, FeedError>
         ensures did { IsBookFed self.old piece.now now result self.new }
+        ensures some { IfOk result (TakesSome piece.now) }
         ensures says { SaysByItself self.old.link self.new.link }
     {
         if let Some(cause) = self.client.cause() {
@@ -240,6 +242,7 @@ fn feed_kept(
     ensures did { IsClientFed client.old piece.now now result client.new }
     ensures got { FeedsGot client.old piece.now result client.new }
     ensures kept { got.new.items ≡ kept_behind got.old.items (take count piece.now) result }
+    ensures some { IfOk result (TakesSome piece.now) }
 {
     let fed = client.feed(piece, now);
     if let Err(FeedError::OutOfMemory) = fed {

@@ -4,7 +4,7 @@ ghost use Rattle.rpc_msg.specs.declared.shared.CloseCause.TheVariants as cause;
 ghost use Rattle.rpc_msg.specs.Limits.{AreLimits};
 ghost use Rattle.rpc_talk.specs.Acts.{is_short};
 ghost use Rattle.rpc_end.specs.Ends.{after_tick, is_closed, is_link_open, out_count, shut, taken_out, tick_answer, wanted_of, WouldTakeOf};
-ghost use Rattle.rpc_end.specs.Taking.{CanPutBack};
+ghost use Rattle.rpc_end.specs.Taking.{CanPutBack, TakesSome};
 ghost use Rattle.rpc_client.specs.Rows.{IsCallable};
 ghost use Rattle.rpc_client.specs.Tables.{next_call_id, next_number};
 ghost use Rattle.rpc_client.specs.Kept.{FeedsGot, HasGot, KeepsGot, TakesHeld, ReceivesHeld};
@@ -107,13 +107,15 @@ impl Client {
     pub fn feed(&mut self, piece: &[u8], now: u64) -> Result<usize, FeedError>
         ensures did { IsClientFed self.old piece.now now result self.new }
         ensures got { FeedsGot self.old piece.now result self.new }
+        ensures some { IfOk result (TakesSome piece.now) }
     {
         self.step(piece, now)
     }
 
     // The same, whatever bytes came before.
     fn step(&mut self, piece: &[u8], now: u64) -> Result<usize, FeedError>
-        ensures { IsClientFed self.old piece.now now result self.new }
+        ensures did { IsClientFed self.old piece.now now result self.new }
+        ensures some { IfOk result (TakesSome piece.now) }
     {
         match self.link.next(piece, now) {
             Ok(Next::Part { used }) => Ok(used),

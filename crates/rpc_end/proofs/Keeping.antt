@@ -1,6 +1,6 @@
 -- What an end keeps when its reader of frames takes a piece, and what it takes to give bytes back.
 use Rattle.std.proofs.Common.{◌≡◌, refl, sym, ap, ◌∙◌, subst, ℕ, zero, suc, ◌+◌, ◌-◌, ◌^◌, ◌<◌, ◌≤◌, Bool, false, List, [], ◌∷◌, ◌++◌, length, take, drop, inr, arith}
-use Rattle.std.specs.Prelude.{Option, Some, None, Result, Ok, Err}
+use Rattle.std.specs.Prelude.{Option, Some, None, Result, Ok, Err, IfOk}
 use Rattle.std.specs.Option.{is_some}
 use Rattle.std.proofs.lemmas.List.{append-nil, length-append, length-drop, length-take, take-append-drop}
 use Rattle.readers.specs.Reader.{IsProperFront}
@@ -18,7 +18,7 @@ use Rattle.rpc_msg.specs.declared.shared.FeedError.TheVariants as feed
 use Rattle.rpc_log.specs.Logs.{opens}
 use Rattle.rpc_log.specs.Readings.{message_in}
 use Rattle.rpc_end.specs.Ends.{EndState, IsEnd, EndsFrame, WouldTakeOf, closed_by, heard, holding, unread}
-use Rattle.rpc_end.specs.Taking.{CanPutBack, IsFedBy, IsNextOf, IsReadNext, IsTooLong, put_back}
+use Rattle.rpc_end.specs.Taking.{CanPutBack, IsFedBy, IsNextOf, IsReadNext, IsTooLong, TakesSome, next_used, put_back}
 use Rattle.rpc_end.specs.declared.end.Next.{Next}
 use Rattle.rpc_end.specs.declared.end.Next.TheVariants as next
 use Rattle.rpc_end.proofs.Taken.{limit_few}
@@ -129,6 +129,12 @@ module _ (old mid : EndState) (piece body : List ℕ) (used : ℕ) (open_still :
       put_held h = record old { held = h }
 
   -- what its body is, is what comes next
+  -- what the body is read as was some bytes
+  pub read_some : (now place : ℕ) (result : Result Next FeedError) (new : EndState) → IsReadNext mid body used place now result new → IfOk result (λ n. TakesSome piece (next_used n))
+  read_some now place (Ok (next.Part n)) new (first, all, is_link_open, is) = λ any. subst (λ k. 1 ≤ k) (sym all) can_put_back.some
+  read_some now place (Ok (next.Message got)) new (greeted, all, at, body_is, reads, is) = λ any. subst (λ k. 1 ≤ k) (sym all) can_put_back.some
+  read_some now place (Err why) new is = tt
+
   pub next_read : (now : ℕ) (result : Result Next FeedError) (new : EndState) → IsReadNext mid body used old.place now result new → IsNextOf old piece now result new
   next_read now (Ok (next.Part n)) new (first, all, is_link_open, is) = (
     open_still,

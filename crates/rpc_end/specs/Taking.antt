@@ -79,6 +79,14 @@ IsClosedBy old piece why new =
     IsTooLong old piece why new
     ⊎ ((body : List ℕ) × (used : ℕ) × EndsFrame old piece body used × (unread old body ≡ Some why) × (new ≡ closed_by (holding old [] used) why))
 
+-- of a piece that is not empty some bytes were taken
+abbrev pub TakesSome : List ℕ → ℕ → Type 0
+TakesSome piece used = 1 ≤ length piece → 1 ≤ used
+
+abbrev pub next_used : Next → ℕ
+next_used (next.Part used) = used
+next_used (next.Message got) = got.used
+
 abbrev pub IsNextOf : EndState → List ℕ → ℕ → Result Next FeedError → EndState → Type 0
 IsNextOf old piece now (Ok (next.Part used)) new = (old.cause ≡ None) × IsPartTaken old piece now used new
 IsNextOf old piece now (Ok (next.Message got)) new = (old.cause ≡ None) × GivesMessage old piece got new

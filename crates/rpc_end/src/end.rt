@@ -2,7 +2,7 @@
 ghost use Rattle.std.specs.Prelude.{◌≡◌, ℕ, ◌++◌, length, take, drop, true, false, IfOk, OnErr, OnOk, Some, None, MatchOption};
 ghost use Rattle.rpc_end.specs.Ends.{first_end, heard, is_link_open, out_count, said, shut, closed_by};
 ghost use Rattle.rpc_end.specs.Ends.{after_tick, taken_out, tick_answer, wanted_of, WouldTakeOf};
-ghost use Rattle.rpc_end.specs.Taking.{put_back, taken_back, CanPutBack, IsNextOf, IsReadNext, TakesBytes};
+ghost use Rattle.rpc_end.specs.Taking.{next_used, put_back, taken_back, CanPutBack, IsNextOf, IsReadNext, TakesBytes, TakesSome};
 ghost use Rattle.rpc_msg.specs.Limits.{AreLimits};
 
 use crate::output::Output;
@@ -99,7 +99,8 @@ impl End {
     /// frame: the header first, and then a message. The end is not moved behind a message before
     /// [`heard`](End::heard) is called for it.
     pub fn next(&mut self, piece: &[u8], now: u64) -> Result<Next, FeedError>
-        ensures { IsNextOf self.old piece.now now result self.new }
+        ensures took { IsNextOf self.old piece.now now result self.new }
+        ensures some { IfOk result (λ next. TakesSome piece.now (next_used next)) }
     {
         if let Some(cause) = self.cause {
             return Err(FeedError::Closed(cause));

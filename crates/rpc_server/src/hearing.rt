@@ -76,6 +76,13 @@ impl Rules {
         }
     }
 
+    /// The schema.
+    pub fn schema(&self) -> &Schema
+        ensures { result.now ≡ self.now.entries }
+    {
+        &self.schema
+    }
+
     /// The most bytes of a message.
     pub fn max_message(&self) -> u64
         ensures most { result ≡ self.now.limits.max_message }

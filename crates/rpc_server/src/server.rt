@@ -1,5 +1,6 @@
 ghost use Rattle.std.specs.Prelude.{◌≡◌, ◌++◌, length, take, drop, None, Some, IfOk, MatchOption, OnErr};
 ghost use Rattle.rpc_end.specs.Ends.{after_tick, is_link_open, out_count, shut, taken_out, tick_answer, wanted_of, WouldTakeOf};
+ghost use Rattle.rpc_end.specs.Taking.{TakesSome};
 ghost use Rattle.rpc_msg.specs.Limits.{AreLimits};
 ghost use Rattle.rpc_msg.specs.declared.shared.CloseCause.TheVariants as close;
 ghost use Rattle.rpc_msg.specs.declared.message.Message.TheVariants as message;
@@ -83,7 +84,8 @@ impl Server {
     /// message of that frame. It answers the menu, and queries that nobody answers or that cannot
     /// be read, by itself.
     pub fn feed(&mut self, piece: &[u8], now: u64) -> Result<ServerFed, FeedError>
-        ensures { IsServerFed self.old piece.now now result self.new }
+        ensures fed { IsServerFed self.old piece.now now result self.new }
+        ensures some { IfOk result (λ fed. TakesSome piece.now fed.used) }
     {
         let got = match self.link.next(piece, now) {
             Ok(Next::Message(got)) => got,
@@ -202,6 +204,13 @@ impl Server {
         ensures { self.new ≡ with_end self.old (shut self.old.link cause) }
     {
         self.link.shut(cause);
+    }
+
+    /// The schema by which it answers. No memory.
+    pub fn schema(&self) -> &Schema
+        ensures { result.now ≡ self.now.rules.entries }
+    {
+        self.rules.schema()
     }
 
     /// Why it is closed. No memory.
