@@ -207,8 +207,8 @@ module _ (r : Common) (ok : IsOk r) (w : World) (g : IsGood r w) where
         (carried_aborted r w.talk g.carried d n call.known (asked_range r d.id w.talk.ups _ _ g.carried.ups call.asks_are) stream)
         (subst (λ k. k ≤ r.limits.max_open) (sym (unfinished_cut (most r) (come w) d.id n w.talk.made)) g.few)
 
-    pub good_held : IsGood r (abort_held r w d h).world
-    good_held =
+    pub good_abort : IsGood r (abort_held r w d h).world
+    good_abort =
         if_good r (is_shut w.client) (refused w Closed) _ (λ e. g) (λ e.
         if_good r (is_some h.ending) (refused w AlreadyEnded) _ (λ e. g) (λ ending.
         if_good r (not (is_stream d.desc.kind)) (refused w NotStream) _ (λ e. g) (λ stream.

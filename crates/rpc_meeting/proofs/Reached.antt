@@ -8,7 +8,7 @@ use Rattle.rpc_meeting.specs.Steps.{AreSteps, IsReached, IsStep, StepAnswer, Ste
 use Rattle.rpc_meeting.specs.Talks.{Common}
 use Rattle.rpc_meeting.specs.Worlds.{World, come, first_world}
 use Rattle.rpc_meeting.proofs.Acting.{good_server}
-use Rattle.rpc_meeting.proofs.Asking.{good_dispatch, found_known, good_held, own}
+use Rattle.rpc_meeting.proofs.Asking.{found_known, good_abort, good_dispatch, own}
 use Rattle.rpc_meeting.proofs.Deeds.{IsFounded, deed_known}
 use Rattle.rpc_meeting.proofs.Goods.{IsGood}
 use Rattle.rpc_meeting.proofs.Lines.{most}
@@ -17,7 +17,7 @@ use Rattle.rpc_meeting.proofs.Moves.{good_close_client, good_close_server, good_
 use Rattle.rpc_meeting.proofs.OneDeed.{deed_once}
 use Rattle.rpc_meeting.proofs.Owners.{IsOk}
 
-first_good : (r : Common) → IsGood r first_world
+pub first_good : (r : Common) → IsGood r first_world
 first_good r = record {
   sound = record { lines = λ id. (refl, refl, refl); own = tt; numbered = tt; apart = tt };
   marks = λ id q here. absurd (no_some q here);
@@ -36,7 +36,7 @@ module _ (r : Common) (ok : IsOk r) where
   pub good_deed : (w : World) → IsGood r w → (deed : Deed) → IsFounded r w.talk.made deed → IsGood r (after_deed r w deed).world
   good_deed w g (Refuse why) known = g
   good_deed w g (Call label d v) (known, fits) = good_dispatch r ok w g (new_dispatch w label d) v known refl refl fits
-  good_deed w g (Abort d) (label, here) = good_held r ok w g label d here
+  good_deed w g (Abort d) (label, here) = good_abort r ok w g label d here
   good_deed w g (Tell d act) ((label, here), suit, given, handles) = good_server r ok w g d (own r ok w g label d here) act suit given handles
   good_deed w g (MoveUp count by) known = good_move_up r w ok g count by
   good_deed w g (MoveDown count by) known = good_move_down r w ok g count by
