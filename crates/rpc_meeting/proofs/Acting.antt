@@ -1,19 +1,15 @@
 -- What handlers do keeps what is so of a world.
-use Rattle.std.proofs.Common.{◌≡◌, refl, sym, ap, ◌∙◌, subst, ℕ, Bool, true, false, not, ◌&&◌, List, [], ◌∷◌}
+use Rattle.std.proofs.Common.{◌≡◌, refl, sym, ap, ◌∙◌, subst, Bool, true, false, not, ◌&&◌, [], ◌∷◌}
 use Rattle.std.specs.Prelude.{Option, Some, None}
-use Rattle.std.specs.Str.{bytes_eq}
 use Rattle.std.proofs.lemmas.List.{append-nil}
-use Rattle.bp_value.specs.Fits.{Fits}
-use Rattle.bp_value.specs.Form.{Form}
-use Rattle.bp_value.specs.declared.value.Value.{Value}
-use Rattle.rpc_schema.specs.declared.desc.Kind.{Kind}
 use Rattle.rpc_schema.specs.declared.desc.RpcDesc.{RpcDesc}
 use Rattle.rpc_log.specs.Logs.{responses_of}
 use Rattle.rpc_talk.specs.Acts.{Act, answer_by, is_short, response, suits}
-use Rattle.rpc_meeting.specs.Steps.{Refusal, Closed, NoSuch, Stopped, TooLong, act_open, act_query, act_server, act_value, Refused, done, find_label, may_be_long, plain_act, refused, value_act, wrong_time}
+use Rattle.rpc_meeting.specs.Deeds.{Refusal, Closed, NoSuch, Stopped, TooLong}
+use Rattle.rpc_meeting.specs.Steps.{Refused, act_open, act_query, act_server, done, may_be_long, refused, wrong_time}
 use Rattle.rpc_meeting.specs.Talks.{Common, Dispatch, Served, with_answer, find_made, find_query, is_begun, goes_on_still, is_stop, is_stopped, told_stopped}
 use Rattle.rpc_meeting.specs.Worlds.{World, arrived, is_shut, set_talk}
-use Rattle.rpc_meeting.proofs.Asking.{each_find, if_good}
+use Rattle.rpc_meeting.proofs.Asking.{if_good}
 use Rattle.rpc_meeting.proofs.Calls.{IsCall, IsKnown, IsLine, asks_of}
 use Rattle.rpc_meeting.proofs.Carried.{asked_range, carried_acted, carried_told}
 use Rattle.rpc_meeting.proofs.Goods.{IsGood, good_talk}
@@ -82,27 +78,3 @@ module _ (r : Common) (ok : IsOk r) (w : World) (g : IsGood r w) where
 
     pub good_server : IsGood r (act_server r w d.id act).world
     good_server = if_good r (is_shut w.server) (refused w Closed) (act_query r w act (find_query d.id w.talk.queries)) (λ e. g) (λ e. good_query (find_query d.id w.talk.queries) refl)
-
-  -- ---- events
-
-  module _ (label : List ℕ) where
-    own_made : (d : Dispatch) → find_label label w.talk.made ≡ Some d → find_made d.id w.talk.made ≡ Some d
-    own_made d here = each_find (λ (x : Dispatch). find_made x.id w.talk.made ≡ Some x) (λ (x : Dispatch). bytes_eq x.label label) w.talk.made d g.sound.own here
-
-    pub good_plain : (is_for : Kind → Bool) (act : Act) → ((d : RpcDesc) → is_for d.kind ≡ true → (suits act d.kind ≡ true) × IsGiven (most r) d act) → is_stop act ≡ false
-        → (o : Option Dispatch) → find_label label w.talk.made ≡ o → IsGood r (plain_act r w is_for act o).world
-    good_plain is_for act right handles None here = g
-    good_plain is_for act right handles (Some d) here =
-        if_good r (is_for d.desc.kind) (act_server r w d.id act) _
-        (λ e. let (fits, given) = right d.desc e in good_server d (own_made d here) act fits given handles) (λ e. g)
-
-    pub good_value : (is_for : Kind → Bool) (form : RpcDesc → Form) (act : Value → Act) (text : List ℕ)
-        → ((d : RpcDesc) (v : Value) → is_for d.kind ≡ true → Fits (most r) (form d) v → (suits (act v) d.kind ≡ true) × IsGiven (most r) d (act v))
-        → ((v : Value) → is_stop (act v) ≡ false) → (o : Option Dispatch) → find_label label w.talk.made ≡ o → IsGood r (value_act r w is_for form act text o).world
-    good_value is_for form act text right handles None here = g
-    good_value is_for form act text right handles (Some d) here =
-        if_good r (is_for d.desc.kind) (act_value r w d.id act (r.value (form d.desc) text)) _ (λ e. by e (r.value (form d.desc) text) refl) (λ e. g)
-      where
-        by : is_for d.desc.kind ≡ true → (o : Option Value) → r.value (form d.desc) text ≡ o → IsGood r (act_value r w d.id act o).world
-        by e None read = g
-        by e (Some v) read = let (fits, given) = right d.desc v e (ok.value (form d.desc) text v read) in good_server d (own_made d here) (act v) fits given (handles v)

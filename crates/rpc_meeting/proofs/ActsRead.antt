@@ -180,15 +180,13 @@ module _ (r : Common) (d : RpcDesc) (entries : AreEntries r.entries) where
 
 -- ---- rules
 
--- the rules of a schema, whose values are read within the limit on messages
-pub ok_rules : (r : Common) → AreEntries r.entries → r.limits.max_message ≤ 2 ^ 30 → All HasVersion r.menu
-    → ((f : Form) (text : List ℕ) (v : Value) → r.value f text ≡ Some v → Fits r.limits.max_message f v) → IsOk r
-ok_rules r entries limit versions value = record {
+-- what the talk rests on is so for the rules of a schema
+pub ok_rules : (r : Common) → AreEntries r.entries → r.limits.max_message ≤ 2 ^ 30 → All HasVersion r.menu → IsOk r
+ok_rules r entries limit versions = record {
   menu = λ tag version is. no_entry r.entries tag version entries.each is;
   own = refl;
   clear = menu_clear r small versions;
   eof = eof_reads r.limits.max_message;
-  value = value;
   first = λ d id act known given suit now short.
       first_act r.limits.max_message d id small (known_forms r d entries known) act given suit now;
   later = λ d id act b before known given stream suit now short.

@@ -19,12 +19,11 @@ use Rattle.bp_value.specs.declared.value.Value.{Value}
 use Rattle.bp_value.specs.declared.value.Value.TheVariants as val
 use Rattle.rpc_msg.specs.declared.message.Message.{Message}
 use Rattle.rpc_schema.specs.declared.desc.Entry.{Entry}
-use Rattle.rpc_schema.specs.Choice.{menu_description}
 use Rattle.rpc_log.specs.Logs.{responses_of}
 use Rattle.rpc_talk.specs.Acts.{is_short}
 use Rattle.rpc_talk.specs.Parts.{Held, cut_ending, cut_parts, is_ended, is_stream, is_tracked}
-use Rattle.rpc_meeting.specs.Menus.{best_version, called_versions, is_called, listings_told}
-use Rattle.rpc_meeting.specs.Steps.{Stepped, AlreadyEnded, Closed, IdsSpent, NotBegun, NotOpen, NotStream, TooLong, TooManyOpen, abort_held, abort_made, ask_entry, best_by, best_entry, dispatch, dispatch_value, done, find_label, last_id, new_dispatch, refused, unless_taken}
+use Rattle.rpc_meeting.specs.Deeds.{AlreadyEnded, Closed, IdsSpent, NotBegun, NotOpen, NotStream, TooLong, TooManyOpen, find_label}
+use Rattle.rpc_meeting.specs.Steps.{Stepped, abort_held, dispatch, done, last_id, refused}
 use Rattle.rpc_meeting.specs.Talks.{Common, Dispatch, with_abort, abort_of, cut_at, with_dispatch, line_named, find_made, find_query, is_entry, is_nil, is_tracked_dispatch, waits_still, new_id, one_ways_of, parts_in, query_of, received, sort_number, tracked_of, waiting_count}
 use Rattle.rpc_meeting.specs.Worlds.{World, arrived, come, has_header, header_size, is_shut, set_talk}
 use Rattle.rpc_meeting.proofs.Calls.{IsCall, IsKnown, IsLine, asks_of, has_begun}
@@ -130,7 +129,7 @@ given_range made d numbered given = subst (InRange 62) (sym numbered) (by (is_tr
     by false e = pos_range (2 * one_ways_of made + 1) e
 
 -- the value that asks for the menu is of its shape
-unit_fits : (m : ℕ) → Fits m (form_of shp.Unit) val.Unit
+pub unit_fits : (m : ℕ) → Fits m (form_of shp.Unit) val.Unit
 unfolding Fits
 unit_fits m = subst (λ f. Fits m f val.Unit) (sym form_of-Unit) refl
 
@@ -172,42 +171,17 @@ module _ (r : Common) (ok : IsOk r) (w : World) (g : IsGood r w) where
         if_good r (int_lt last_id d.id) (refused w IdsSpent) (done (set_talk w (with_dispatch w.talk d v))) (λ e. g)
         (λ given. good_dispatched (not_not (is_short (most r) (query_of d v)) short) given room)))))
 
-  good_value : (d : Dispatch) (text : List ℕ) (o : Option Value) → r.value (form_of d.desc.query) text ≡ o → IsKnown r d.desc → d.cut ≡ None
-      → d.id ≡ new_id w.talk.made d.desc.kind → IsGood r (dispatch_value r w d o).world
-  good_value d text None read known uncut numbered = g
-  good_value d text (Some v) read known uncut numbered = good_dispatch d v known uncut numbered (ok.value (form_of d.desc.query) text v read)
-
-  good_entry : (label text tag : List ℕ) (version : ℤ) (o : Option Entry) → line_named r.entries tag version ≡ o → IsGood r (ask_entry r w label text o).world
-  good_entry label text tag version None here = g
-  good_entry label text tag version (Some e) here =
-      if_good r (is_called e.side) (dispatch_value r w (new_dispatch w label e.desc) (r.value (form_of e.desc.query) text)) _
-      (λ called. good_value (new_dispatch w label e.desc) text (r.value (form_of e.desc.query) text) refl (inr (e, entry_named r.entries tag version e here, refl)) refl refl) (λ e. g)
-
-  pub good_ask : (label text tag : List ℕ) (version : ℤ) → IsGood r (ask_entry r w label text (line_named r.entries tag version)).world
-  good_ask label text tag version = good_entry label text tag version (line_named r.entries tag version) refl
-
-  pub good_menu : (label : List ℕ) → IsGood r (dispatch r w (new_dispatch w label menu_description) val.Unit).world
-  good_menu label = good_dispatch (new_dispatch w label menu_description) val.Unit (inl refl) refl refl (unit_fits (most r))
-
-  pub good_best : (label name text : List ℕ) (o : Option Value) → IsGood r (best_by r w label name text o).world
-  good_best label name text None = g
-  good_best label name text (Some menu) = by (best_version (called_versions r.entries name) (listings_told menu) name)
-    where
-      by : (o : Option ℤ) → IsGood r (best_entry r w label name text o).world
-      by None = g
-      by (Some version) = good_ask label text name version
-
-  pub good_unless : (label : List ℕ) (to : Stepped) → IsGood r to.world → IsGood r (unless_taken w label to).world
-  good_unless label to good = if_good r (is_some (find_label label w.talk.made)) _ to (λ e. g) (λ e. good)
-
   -- ---- a dispatch is aborted
 
   module _ (label : List ℕ) (d : Dispatch) (here : find_label label w.talk.made ≡ Some d) where
-    own : find_made d.id w.talk.made ≡ Some d
+    pub own : find_made d.id w.talk.made ≡ Some d
     own = each_find (λ (x : Dispatch). find_made x.id w.talk.made ≡ Some x) (λ (x : Dispatch). bytes_eq x.label label) w.talk.made d g.sound.own here
 
     call : IsCall r d (asks_of r.entries d.id w.talk.ups) (asks_of r.entries d.id (arrived w)) (find_query d.id w.talk.queries) (responses_of d.id w.talk.downs)
     call = subst (λ o. IsLine r o (asks_of r.entries d.id w.talk.ups) (asks_of r.entries d.id (arrived w)) (find_query d.id w.talk.queries) (responses_of d.id w.talk.downs)) own (g.sound.lines d.id)
+
+    pub found_known : IsKnown r d.desc
+    found_known = call.known
 
     abbrev h : Held
     h = received (most r) (come w) false d
@@ -233,14 +207,10 @@ module _ (r : Common) (ok : IsOk r) (w : World) (g : IsGood r w) where
         (carried_aborted r w.talk g.carried d n call.known (asked_range r d.id w.talk.ups _ _ g.carried.ups call.asks_are) stream)
         (subst (λ k. k ≤ r.limits.max_open) (sym (unfinished_cut (most r) (come w) d.id n w.talk.made)) g.few)
 
-    good_held : IsGood r (abort_held r w d h).world
-    good_held =
+    pub good_abort : IsGood r (abort_held r w d h).world
+    good_abort =
         if_good r (is_shut w.client) (refused w Closed) _ (λ e. g) (λ e.
         if_good r (is_some h.ending) (refused w AlreadyEnded) _ (λ e. g) (λ ending.
         if_good r (not (is_stream d.desc.kind)) (refused w NotStream) _ (λ e. g) (λ stream.
         if_good r (is_nil h.parts) (refused w NotBegun) (done (set_talk w (with_abort w.talk d (length h.parts)))) (λ e. g) (λ parts.
         good_aborted (length h.parts) ending (not_not (is_stream d.desc.kind) stream) parts))))
-
-  pub good_abort : (label : List ℕ) (o : Option Dispatch) → find_label label w.talk.made ≡ o → IsGood r (abort_made r w o).world
-  good_abort label None here = g
-  good_abort label (Some d) here = good_held label d here

@@ -1,8 +1,7 @@
 -- The first bytes of what an end wrote: the frames that are whole among them, and the front of the next one.
 use Rattle.std.proofs.Common.{◌≡◌, refl, sym, ap, ◌∙◌, subst, ℕ, zero, suc, ◌+◌, ◌-◌, ◌^◌, ◌≤◌, ◌<◌, Bool, true, false, if◌then◌else◌, List, [], ◌∷◌, ◌++◌, map, length, take, drop, append_assoc, nat_le, arith, ◌⊎◌, inl, inr}
-use Rattle.std.specs.Prelude.{Option, Some, None}
-use Rattle.std.proofs.lemmas.List.{append-nil, length-append, length-drop, take-append-drop, take-append-le}
-use Rattle.readers.specs.Reader.{Each, IsProperFront}
+use Rattle.std.proofs.lemmas.List.{length-append, length-drop, take-append-drop, take-append-le}
+use Rattle.readers.specs.Reader.{IsProperFront}
 use Rattle.rpc_frame.specs.Frames.{frame, frames, IsFrame}
 use Rattle.rpc_frame.specs.Streams.{AreBodies, AreWithin}
 use Rattle.rpc_frame.proofs.HeadSteps.{take_front}

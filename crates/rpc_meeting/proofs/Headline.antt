@@ -21,7 +21,8 @@ use Rattle.rpc_talk.specs.Parts.{Ends, cut_parts, goes_on, later_parts, kind_par
 use Rattle.rpc_talk.specs.Said.{Said, Reply, Begun, Declined, Item, Eof, Unreadable, Failed, answer_said, later_by, said_behind, says_in}
 use Rattle.rpc_talk.proofs.OneMore.{parts_on, parts_over}
 use Rattle.rpc_meeting.specs.Received.{AreLegalOf, IsHeadline, asks_with, own_answers, sent_to, sent_by}
-use Rattle.rpc_meeting.specs.Steps.{IsReached, find_label}
+use Rattle.rpc_meeting.specs.Deeds.{find_label}
+use Rattle.rpc_meeting.specs.Steps.{IsReached}
 use Rattle.rpc_meeting.specs.Talks.{Common, Dispatch, Served, Answerer, Menu, Nobody, Listener, Handler, find_made, find_query, is_abort_query, answerer, parts_in}
 use Rattle.rpc_meeting.specs.Worlds.{World, arrived, come, header_size}
 use Rattle.rpc_meeting.proofs.Asking.{each_find}

@@ -16,6 +16,8 @@ pub mod Goods
 pub mod Moves
 pub mod Asking
 pub mod Acting
+pub mod Deeds
+pub mod OneDeed
 pub mod Reached
 pub mod Headline
 pub mod MenuReads

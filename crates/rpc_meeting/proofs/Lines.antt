@@ -22,7 +22,8 @@ use Rattle.rpc_talk.specs.Parts.{goes_on, is_broken, is_stream, is_tracked, kind
 use Rattle.rpc_talk.specs.Said.{Eof, Failed, later_by, part_said, said_behind, says_in}
 use Rattle.rpc_talk.specs.Welcome.{is_welcome_answer, is_welcome_by}
 use Rattle.rpc_talk.proofs.OneMore.{parts_on, says_more}
-use Rattle.rpc_meeting.specs.Steps.{NotBegun, wrong_time}
+use Rattle.rpc_meeting.specs.Deeds.{NotBegun}
+use Rattle.rpc_meeting.specs.Steps.{wrong_time}
 use Rattle.rpc_meeting.specs.Talks.{Common, Dispatch, Served, Answerer, Menu, Nobody, Listener, Handler, act_said, is_nil, goes_on_still, is_begun, menu_answer, answerer, said_parts, stops_one}
 use Rattle.rpc_meeting.proofs.ActMarks.{legal_more}
 use Rattle.rpc_meeting.proofs.Calls.{Ask, Begins, Stops, AreClear, AreWelcome, IsCall, IsClear, IsHandled, IsKnown, IsLine, Owed, asks_cut, has_begun, is_open_one, stops_query}

@@ -1,10 +1,9 @@
 -- An act that stops a query stands only where its abort came, and an act was refused for that only behind it.
-use Rattle.std.proofs.Common.{◌≡◌, refl, sym, ap, ◌∙◌, subst, ℕ, ℤ, Bool, true, false, not, ◌&&◌, ◌||◌, if◌then◌else◌, List, [], ◌∷◌, ◌++◌, map, append_assoc, ◌⊎◌, inl, inr}
-use Rattle.std.specs.Prelude.{Option, Some, None, fold}
+use Rattle.std.proofs.Common.{◌≡◌, refl, sym, ap, ◌∙◌, subst, ℤ, Bool, true, false, not, ◌&&◌, ◌||◌, if◌then◌else◌, List, [], ◌∷◌, ◌++◌, map, ◌⊎◌, inl, inr}
+use Rattle.std.specs.Prelude.{Option, Some, None}
 use Rattle.std.specs.List.{list_any}
 use Rattle.std.specs.Option.{option_map}
 use Rattle.std.specs.Ordering.{int_eq}
-use Rattle.std.proofs.lemmas.List.{append-nil}
 use Rattle.std.proofs.lemmas.List.Folds.{list_any-append}
 use Rattle.rpc_msg.specs.declared.message.Query.{Query}
 use Rattle.rpc_msg.specs.declared.message.Message.{Message}
@@ -12,12 +11,12 @@ use Rattle.rpc_msg.specs.declared.message.Message.TheVariants as message
 use Rattle.rpc_schema.specs.declared.desc.RpcDesc.{RpcDesc}
 use Rattle.rpc_talk.specs.Acts.{Act}
 use Rattle.rpc_talk.specs.Acts as acts
-use Rattle.rpc_meeting.specs.Talks.{Common, Answerer, Dispatch, Menu, Nobody, Listener, Handler, Served, Talk, answerer, asked_by, find_query, heard_up, is_abort_query, is_stop, is_stopped, new_query, query_heard_up, stop_query, stopped, stops_one, told_stopped, with_act, with_answer, with_told}
+use Rattle.rpc_meeting.specs.Talks.{Common, Answerer, Dispatch, Menu, Nobody, Listener, Handler, Served, Talk, answerer, asked_by, find_query, heard_up, is_abort_query, is_stop, is_stopped, new_query, stop_query, stopped, stops_one, told_stopped, with_act, with_answer, with_told}
 use Rattle.rpc_meeting.proofs.Calls.{Ask, Begins, ask_by, asks_of}
 use Rattle.rpc_meeting.proofs.Filters.{asks_join, asks_same}
 use Rattle.rpc_meeting.proofs.Heard.{ComesNext, asked, own_owner, stops_begins}
-use Rattle.rpc_meeting.proofs.Lines.{acted_one, told_one}
-use Rattle.rpc_meeting.proofs.Look.{find_key, find_map, find_map_other, find_push_new, find_push_none, find_push_old, find_push_other, no_some, same, some_is}
+use Rattle.rpc_meeting.proofs.Lines.{acted_one}
+use Rattle.rpc_meeting.proofs.Look.{find_key, find_map, find_map_other, find_push_new, find_push_other, same, some_is}
 use Rattle.rpc_meeting.proofs.Owners.{IsOk}
 use Rattle.rpc_meeting.proofs.Sound.{IsSound, act_other, act_same, query_key, tells, told_other, told_same}
 

@@ -37,7 +37,6 @@ pub record IsOk (r : Common) : Type 0 where
   pub own : is_menu menu_name (pos 1) ≡ true
   pub clear : (id : ℤ) → AreClear (says_in r.limits.max_message menu_description (menu_answer r id ∷ []))
   pub eof : (f : Form) → part_said r.limits.max_message f (written part_form eof_value) ≡ Eof
-  pub value : (f : Form) (text : List ℕ) (v : Value) → r.value f text ≡ Some v → Fits r.limits.max_message f v
   pub first : (d : RpcDesc) (id : ℤ) (act : Act) → IsKnown r d → IsGiven r.limits.max_message d act → suits act d.kind ≡ true → wrong_time act false ≡ None
       → is_short r.limits.max_message (response id (answer_by d act)) ≡ true → said_behind r.limits.max_message d [] (answer_by d act) ≡ act_said act
   pub later : (d : RpcDesc) (id : ℤ) (act : Act) (b : Answer) (before : List Answer) → IsKnown r d → IsGiven r.limits.max_message d act → is_stream d.kind ≡ true

@@ -32,12 +32,11 @@ use Rattle.rpc_talk.specs.Said as said
 
 -- ---- what both ends have in common
 
--- the lines of a schema, the limits, the menu of those lines, and how the text of a value is read
+-- the lines of a schema, the limits, and the menu of those lines
 pub record Common : Type 0 where
   pub entries : List Entry
   pub limits : Limits
   pub menu : List Listing
-  pub value : Form → List ℕ → Option Value
 
 abbrev pub is_entry : List ℕ → ℤ → Entry → Bool
 is_entry tag version e = bytes_eq e.desc.name tag && int_eq e.desc.version version

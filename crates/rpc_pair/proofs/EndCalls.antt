@@ -155,5 +155,5 @@ module _ (r : Common) (is : IsOfSchema r) (w : World) (c new : ClientState) (s :
   abort_ends label d result here did =
       let own : find_made d.id w.talk.made ≡ Some d
       = each_find (λ (x : Dispatch). find_made x.id w.talk.made ≡ Some x) (λ (x : Dispatch). bytes_eq x.label label) w.talk.made d ends.good.sound.own here in
-      asks_ends (abort_held r w d (received (most r) (come w) false d)) (good_abort r (schema_ok r is) w ends.good label (Some d) here) (abort_world r w d) (aborted_as result)
+      asks_ends (abort_held r w d (received (most r) (come w) false d)) (good_abort r (schema_ok r is) w ends.good label d here) (abort_world r w d) (aborted_as result)
       (abort_goes r w c ends.client kept (closed_same r w.got w.client w.now c.link ends.client_link) d own result new did)

@@ -11,7 +11,7 @@ use Rattle.rpc_meeting.specs.Talks.{Common, Talk, heard_up}
 use Rattle.rpc_meeting.specs.Worlds.{Reason, JournalFull, Side, World, arrived, boundary, close_side, come, first_world, flying, frame_count, header_size, heard_since, set_client, set_now, set_server, stream_of, tick_client, tick_server, up_piece, up_talk, whole, down_piece, is_shut, journal, took_bytes}
 use Rattle.rpc_meeting.proofs.Goods.{IsGood, good_now, good_up, heard_all, good_down}
 use Rattle.rpc_meeting.proofs.Moves.{good_close_client, good_close_server, good_tick_client, good_tick_server}
-use Rattle.rpc_meeting.proofs.Reached.{good}
+use Rattle.rpc_meeting.proofs.Reached.{first_good}
 use Rattle.rpc_meeting.proofs.Whole.{whole_log_grows}
 use Rattle.rpc_client.specs.Clients.{ClientState, first_client, with_link}
 use Rattle.rpc_client.proofs.Gots.{shut_got, start_got, take_out_got, tick_got}
@@ -47,7 +47,7 @@ world_same a b talk up down got client server now =
 -- Two new ends stand for the first world.
 pub first_ends : (r : Common) (s : ServerState) → IsOfSchema r → IsNew r.entries r.limits 0 s → EndsStand r first_world (first_client r.limits 0) s [] []
 first_ends r s is new = record {
-  good = good r first_world (schema_ok r is) ([], refl);
+  good = first_good r;
   client = record { limits = refl; rows = tt };
   server = new_stands r 0 s is new;
   client_link = first_stands r;

@@ -18,4 +18,4 @@ module _ (r : Common) (is : IsOfSchema r) where
 
   -- the talk can rest on these rules
   pub schema_ok : IsOk r
-  schema_ok = ok_rules r is.entries is.limits.message.1 (menu_versions r.entries r.menu is.entries is.menu) is.value
+  schema_ok = ok_rules r is.entries is.limits.message.1 (menu_versions r.entries r.menu is.entries is.menu)

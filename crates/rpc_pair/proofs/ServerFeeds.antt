@@ -23,7 +23,7 @@ use Rattle.rpc_meeting.specs.Talks.{Common, Talk, first_talk, heard_up}
 use Rattle.rpc_meeting.specs.Worlds.{Side, came_log, first_world, stream_of}
 use Rattle.rpc_meeting.proofs.Carried.{IsUp}
 use Rattle.rpc_meeting.proofs.Lines.{most}
-use Rattle.rpc_meeting.proofs.Reached.{good}
+use Rattle.rpc_meeting.proofs.Reached.{first_good}
 use Rattle.rpc_server.specs.Servers.{ServerState, DoesAsTaken, Hears, IsNew, IsServerFed, with_end}
 use Rattle.rpc_server.specs.declared.arrival.ServerFed.{ServerFed}
 use Rattle.rpc_pair.specs.Links.{LinkStands}
@@ -71,7 +71,7 @@ pub record IsServerAt (r : Common) (s : ServerState) (t : Talk) (given : List �
 pub new_at : (r : Common) (now : ℕ) (s : ServerState) → IsOfSchema r → IsNew r.entries r.limits now s → IsServerAt r s first_talk [] [] []
 new_at r now s is new = record {
   stands = new_stands r now s is new;
-  meets = meets_good r first_world (good r first_world (schema_ok r is) ([], refl));
+  meets = meets_good r first_world (first_good r);
   max = ap (λ (e : EndState). e.max) new.link_is;
   going = ap (λ (e : EndState). e.cause) new.link_is;
   bodies = [];
