@@ -18,28 +18,10 @@ use Rattle.rpc_talk.specs.Parts.{is_stream, is_tracked, takes_reply}
 use Rattle.rpc_meeting.specs.Menus.{best_version, called_versions, is_called, listings_told}
 use Rattle.rpc_meeting.specs.Talks.{Dispatch, line_named}
 use Rattle.rpc_meeting.specs.Worlds.{Reason, ClosedHere, EndOfInput}
+pub use Rattle.rpc_meeting.specs.declared.answer.Refusal.{Refusal}
+pub use Rattle.rpc_meeting.specs.declared.answer.Refusal.TheVariants.{LabelTaken, NoSuchRpc, NoMenu, NoVersion, BadValue, Closed, NotOpen, TooLong, TooManyOpen, IdsSpent, NoSuchLabel, AlreadyEnded, NotStream, NotBegun, WrongKind, NoSuch, Stopped, AlreadyBegun}
 
--- ---- refusals and deeds
-
-pub data Refusal : Type 0 where
-  LabelTaken : Refusal
-  NoSuchRpc : Refusal
-  NoMenu : Refusal
-  NoVersion : Refusal
-  BadValue : Refusal
-  Closed : Refusal
-  NotOpen : Refusal
-  TooLong : Refusal
-  TooManyOpen : Refusal
-  IdsSpent : Refusal
-  NoSuchLabel : Refusal
-  AlreadyEnded : Refusal
-  NotStream : Refusal
-  NotBegun : Refusal
-  WrongKind : Refusal
-  NoSuch : Refusal
-  Stopped : Refusal
-  AlreadyBegun : Refusal
+-- ---- deeds
 
 -- What is to be done. The client dispatches a procedure, or aborts a dispatch; a handler acts on a dispatch's query; bytes move, all that
 -- are in flight or so many at most, in pieces of at most `by`; a moment comes; an end closes; or what a dispatch received is shown.

@@ -11,13 +11,10 @@ use Rattle.rpc_meeting.specs.Menus.{last_menu}
 use Rattle.rpc_meeting.specs.Talks.{Common, Dispatch, Served, new_id, query_of, is_nil, goes_on_still, is_begun, is_stopped, with_dispatch, with_abort, with_answer, told_stopped, find_query, received, waiting_count}
 use Rattle.rpc_meeting.specs.Worlds.{World, is_shut, come, has_header, flying, up_pieces, down_pieces, set_client, set_server, set_now, set_talk, close_side, tick_client, tick_server, first_world}
 pub use Rattle.rpc_meeting.specs.Deeds.{Refusal, LabelTaken, NoSuchRpc, NoMenu, NoVersion, BadValue, Closed, NotOpen, TooLong, TooManyOpen, IdsSpent, NoSuchLabel, AlreadyEnded, NotStream, NotBegun, WrongKind, NoSuch, Stopped, AlreadyBegun, find_label}
+pub use Rattle.rpc_meeting.specs.declared.answer.StepAnswer.{StepAnswer}
+pub use Rattle.rpc_meeting.specs.declared.answer.StepAnswer.TheVariants.{Done, Refused, Shown}
 
 -- ---- answers
-
-pub data StepAnswer : Type 0 where
-  Done : StepAnswer
-  Shown : StepAnswer
-  Refused : Refusal → StepAnswer
 
 pub record Stepped : Type 0 where
   pub world : World
