@@ -11,8 +11,10 @@ use Rattle.rpc_schema.specs.declared.desc.RpcDesc.{RpcDesc}
 use Rattle.rpc_end.specs.Ends.{is_closed, said}
 use Rattle.rpc_log.specs.Logs.{responses_of}
 use Rattle.rpc_talk.specs.Parts.{CallParts, Held, cut_ending, cut_parts, is_stream, parts_of}
-use Rattle.rpc_meeting.specs.Steps as world
-use Rattle.rpc_meeting.specs.Steps.{Refusal, Refused, Stepped, Done, abort_held, done, refused}
+use Rattle.rpc_meeting.specs.declared.answer.Refusal.TheVariants as world
+use Rattle.rpc_meeting.specs.declared.answer.StepAnswer.TheVariants.{Refused, Done}
+use Rattle.rpc_meeting.specs.declared.answer.Refusal.{Refusal}
+use Rattle.rpc_meeting.specs.Steps.{Stepped, abort_held, done, refused}
 use Rattle.rpc_meeting.specs.Talks.{Common, Dispatch, abort_body, abort_of, cut_at, find_made, is_nil, parts_in, query_to, received, with_abort}
 use Rattle.rpc_meeting.specs.Worlds.{World, come, is_shut, set_talk}
 use Rattle.rpc_meeting.proofs.Lines.{most}

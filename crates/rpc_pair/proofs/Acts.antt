@@ -16,8 +16,10 @@ use Rattle.rpc_end.specs.Ends.{is_closed, said}
 use Rattle.rpc_log.specs.Logs.{responses_of}
 use Rattle.rpc_talk.specs.Acts.{Act, Reply, Fail, Begin, Decline, Give, End, Stop, answer_by, finishes, is_short, response, suits}
 use Rattle.bp_grammar.specs.Written.{written}
-use Rattle.rpc_meeting.specs.Steps as world
-use Rattle.rpc_meeting.specs.Steps.{Refusal, Stepped, Refused, Done, act_open, act_query, act_server, done, may_be_long, refused, wrong_time}
+use Rattle.rpc_meeting.specs.declared.answer.Refusal.TheVariants as world
+use Rattle.rpc_meeting.specs.declared.answer.StepAnswer.TheVariants.{Refused, Done}
+use Rattle.rpc_meeting.specs.declared.answer.Refusal.{Refusal}
+use Rattle.rpc_meeting.specs.Steps.{Stepped, act_open, act_query, act_server, done, may_be_long, refused, wrong_time}
 use Rattle.rpc_meeting.specs.Talks.{Common, Dispatch, Served, find_made, find_query, goes_on_still, is_begun, is_stop, is_stopped, told_stopped, with_act, with_answer, with_told}
 use Rattle.rpc_meeting.specs.Worlds.{World, arrived, is_shut, set_talk}
 use Rattle.rpc_meeting.proofs.Calls.{Ask, IsCall, IsHandled, IsLine, asks_of}

@@ -7,7 +7,11 @@ use Rattle.rpc_msg.specs.declared.message.Message.{Message}
 use Rattle.rpc_end.specs.Ends.{EndState}
 use Rattle.rpc_end.specs.Taken.{HasTaken}
 use Rattle.rpc_talk.specs.Acts.{Act, answer_by, body_of, is_short, own_header, response, suits}
-use Rattle.rpc_meeting.specs.Steps.{Refusal, Refused, StepAnswer, Stepped, Closed, NoSuch, Stopped, TooLong, act_open, act_query, act_server, done, may_be_long, refused, wrong_time}
+use Rattle.rpc_meeting.specs.declared.answer.StepAnswer.{StepAnswer}
+use Rattle.rpc_meeting.specs.declared.answer.StepAnswer.TheVariants.{Refused}
+use Rattle.rpc_meeting.specs.declared.answer.Refusal.{Refusal}
+use Rattle.rpc_meeting.specs.declared.answer.Refusal.TheVariants.{Closed, NoSuch, Stopped, TooLong}
+use Rattle.rpc_meeting.specs.Steps.{Stepped, act_open, act_query, act_server, done, may_be_long, refused, wrong_time}
 use Rattle.rpc_meeting.specs.Talks.{Common, Dispatch, Served, find_made, find_query, goes_on_still, is_begun, is_stop, is_stopped, told_stopped, with_answer}
 use Rattle.rpc_meeting.specs.Worlds.{World, arrived, come, header_size, is_shut, set_talk, stream_of, whole}
 use Rattle.rpc_meeting.proofs.Acting.{good_server}

@@ -18,8 +18,10 @@ use Rattle.rpc_schema.specs.declared.desc.RpcDesc.{RpcDesc}
 use Rattle.rpc_end.specs.Ends.{EndState, is_closed, is_link_open, said}
 use Rattle.rpc_talk.specs.Acts.{is_short}
 use Rattle.rpc_talk.specs.Parts.{is_stream, is_tracked}
-use Rattle.rpc_meeting.specs.Steps as world
-use Rattle.rpc_meeting.specs.Steps.{Refusal, Refused, Stepped, Done, dispatch, done, last_id, new_dispatch, refused}
+use Rattle.rpc_meeting.specs.declared.answer.Refusal.TheVariants as world
+use Rattle.rpc_meeting.specs.declared.answer.StepAnswer.TheVariants.{Refused, Done}
+use Rattle.rpc_meeting.specs.declared.answer.Refusal.{Refusal}
+use Rattle.rpc_meeting.specs.Steps.{Stepped, dispatch, done, last_id, new_dispatch, refused}
 use Rattle.rpc_meeting.specs.Talks.{Common, Dispatch, query_body_by, query_of, query_to, waiting_count, with_dispatch}
 use Rattle.rpc_meeting.specs.Worlds.{World, come, has_header, is_shut, set_talk}
 use Rattle.rpc_meeting.proofs.Lines.{most}

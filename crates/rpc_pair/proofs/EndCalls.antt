@@ -15,7 +15,9 @@ use Rattle.rpc_log.specs.Logs.{log_of}
 use Rattle.rpc_talk.specs.Acts.{body_of, is_short}
 use Rattle.rpc_talk.specs.Parts.{is_stream, is_tracked}
 use Rattle.rpc_talk.specs.Welcome.{accepted}
-use Rattle.rpc_meeting.specs.Steps.{StepAnswer, Stepped, AlreadyEnded, Closed, IdsSpent, NotBegun, NotOpen, NotStream, TooLong, TooManyOpen, abort_held, dispatch, done, find_label, last_id, new_dispatch, refused}
+use Rattle.rpc_meeting.specs.declared.answer.StepAnswer.{StepAnswer}
+use Rattle.rpc_meeting.specs.declared.answer.Refusal.TheVariants.{AlreadyEnded, Closed, IdsSpent, NotBegun, NotOpen, NotStream, TooLong, TooManyOpen}
+use Rattle.rpc_meeting.specs.Steps.{Stepped, abort_held, dispatch, done, find_label, last_id, new_dispatch, refused}
 use Rattle.rpc_meeting.specs.Talks.{Common, Dispatch, find_made, find_query, is_nil, open_queries, query_of, received, waiting_count, with_abort, with_dispatch}
 use Rattle.rpc_meeting.specs.Worlds.{World, arrived, come, has_header, header_size, is_shut, set_talk, stream_of, whole}
 use Rattle.rpc_meeting.proofs.Asking.{each_find, good_abort, good_dispatch}

@@ -3,8 +3,10 @@ use Rattle.std.specs.Prelude.{◌≡◌, List, [], ◌∷◌, ◌++◌, Option, 
 use Rattle.rpc_msg.specs.declared.message.Message.{Message}
 use Rattle.rpc_msg.specs.declared.shared.Ticket.{Ticket}
 use Rattle.rpc_end.specs.Ends.{EndState}
-use Rattle.rpc_meeting.specs.Steps as world
-use Rattle.rpc_meeting.specs.Steps.{StepAnswer, Stepped, Done, Refused}
+use Rattle.rpc_meeting.specs.declared.answer.Refusal.TheVariants as world
+use Rattle.rpc_meeting.specs.declared.answer.StepAnswer.{StepAnswer}
+use Rattle.rpc_meeting.specs.declared.answer.StepAnswer.TheVariants.{Done, Refused}
+use Rattle.rpc_meeting.specs.Steps.{Stepped}
 use Rattle.rpc_meeting.specs.Talks.{Common, Dispatch, Talk}
 use Rattle.rpc_client.specs.Clients.{ClientState}
 use Rattle.rpc_client.specs.Rows.{Row}

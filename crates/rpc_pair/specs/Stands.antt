@@ -7,8 +7,10 @@ use Rattle.rpc_schema.specs.declared.desc.Entry.{Entry}
 use Rattle.rpc_schema.specs.declared.desc.RpcDesc.{RpcDesc}
 use Rattle.rpc_end.specs.Ends.{EndState, heard, said}
 use Rattle.rpc_talk.specs.Acts.{is_served}
-use Rattle.rpc_meeting.specs.Steps as world
-use Rattle.rpc_meeting.specs.Steps.{StepAnswer, Stepped, Done, Refused}
+use Rattle.rpc_meeting.specs.declared.answer.Refusal.TheVariants as world
+use Rattle.rpc_meeting.specs.declared.answer.StepAnswer.{StepAnswer}
+use Rattle.rpc_meeting.specs.declared.answer.StepAnswer.TheVariants.{Done, Refused}
+use Rattle.rpc_meeting.specs.Steps.{Stepped}
 use Rattle.rpc_meeting.specs.Talks.{Common, Served, Talk, find_query, goes_on_still, is_begun, is_stopped, open_queries}
 use Rattle.rpc_server.specs.Servers.{ServerState}
 use Rattle.rpc_server.specs.Tables.{standing, unfinished}
