@@ -24,7 +24,8 @@ pub fn put_error(error: &RpcError, out: &mut Vec<u8>) -> Result<(), OutOfMemory>
     }
 }
 
-fn append_error(error: &RpcError, out: &mut Vec<u8>) -> Result<(), OutOfMemory>
+/// Appends the text of the error, or a front of it where memory runs out.
+pub fn append_error(error: &RpcError, out: &mut Vec<u8>) -> Result<(), OutOfMemory>
     ensures { Appends (error_text error.now) out.old.items out.new.items result }
 {
     match error {
