@@ -1,5 +1,5 @@
--- A dispatch at a client has the answer that it has in the world, and the client goes along with the talk.
-use Rattle.std.proofs.Common.{◌≡◌, refl, sym, ap, ◌∙◌, subst, ℕ, ◌^◌, Bool, true, false, not, ◌&&◌, nat_le, int_lt, if◌then◌else◌, List, [], ◌∷◌}
+-- A dispatch at a book has the answer that it has in the world, and the book goes along with the talk.
+use Rattle.std.proofs.Common.{◌≡◌, refl, sym, ap, ◌∙◌, subst, ℕ, ◌^◌, Bool, true, false, not, ◌&&◌, nat_le, int_lt, if◌then◌else◌, List, [], ◌∷◌, ◌++◌, map}
 use Rattle.std.specs.Prelude.{Option, Some, None, Result, Ok, Err}
 use Rattle.std.specs.List.{count_by}
 use Rattle.std.specs.Option.{is_none, is_some}
@@ -25,14 +25,15 @@ use Rattle.rpc_meeting.specs.Steps.{Stepped, dispatch, done, last_id, new_dispat
 use Rattle.rpc_meeting.specs.Talks.{Common, Dispatch, query_body_by, query_of, query_to, waiting_count, with_dispatch}
 use Rattle.rpc_meeting.specs.Worlds.{World, come, has_header, is_shut, set_talk}
 use Rattle.rpc_meeting.proofs.Lines.{most}
-use Rattle.rpc_client.specs.Clients.{ClientState, IsDispatched, RefusesCall, after_dispatch, is_full, next_query}
-use Rattle.rpc_client.specs.Rows.{new_row}
-use Rattle.rpc_client.specs.Tables.{data_by, is_waited_for, next_call_id, next_number, query_data}
+use Rattle.rpc_client.specs.Tables.{data_by, query_data}
 use Rattle.rpc_client.specs.declared.error.DispatchError.{DispatchError}
 use Rattle.rpc_client.specs.declared.error.DispatchError.TheVariants as undone
-use Rattle.rpc_pair.specs.Callers.{AsksAlong, CallsAlong, ClientStands, dispatched_as}
-use Rattle.rpc_pair.proofs.CallRows.{next_same, rows_push}
-use Rattle.rpc_pair.proofs.Held.{IsKeptBy, waiting_same}
+use Rattle.rpc_book.specs.Books.{BookState}
+use Rattle.rpc_book.specs.Calls.{IsBooked, IsFresh, RefusesBooking, after_booking, booked_query, is_book_full, is_unfinished, new_booked, next_id, next_id_number}
+use Rattle.rpc_pair.specs.Callers.{AsksAlong, BooksAlong, dispatched_as}
+use Rattle.rpc_pair.specs.Standing.{booked_of}
+use Rattle.rpc_pair.proofs.Bookings.{ids_push, made_push, next_same}
+use Rattle.rpc_pair.proofs.Held.{HasHeard, limit_same, waiting_same}
 
 data_same : (kind : Kind) (f : Form) (v : Value) → data_by (is_stream kind) (written f v) ≡ query_body_by kind f v
 data_same Plain f v = refl
@@ -49,16 +50,16 @@ link_open e is = by e.greeted e.cause is
     by true (Some why) is = absurd cc
     by false o is = absurd cc
 
-module _ (r : Common) (w : World) (c : ClientState) (stands : ClientStands r c w.talk) (kept : IsKeptBy r c (come w)) (shut : is_closed c.link ≡ is_shut w.client)
-    (opens : is_closed c.link ≡ false → c.link.greeted ≡ has_header w.got) (label : List ℕ) (d : RpcDesc) (v : Value) (fits : Fits (most r) (form_of d.query) v)
-    (result : Result Ticket DispatchError) (new : ClientState) where
+module _ (r : Common) (w : World) (b : BookState) (heard : HasHeard r b w.talk (come w)) (shut : is_closed b.link ≡ is_shut w.client)
+    (opens : is_closed b.link ≡ false → b.link.greeted ≡ has_header w.got) (label : List ℕ) (d : RpcDesc) (v : Value) (fits : Fits (most r) (form_of d.query) v)
+    (result : Result Ticket DispatchError) (new : BookState) where
   abbrev made : Dispatch
   made = new_dispatch w label d
 
   -- ---- the world's tests, each behind those before it
 
   abbrev Along : Stepped → Type 0
-  Along to = AsksAlong (dispatched_as result) r c w.talk to new
+  Along to = AsksAlong (dispatched_as result) r b w.talk to new
 
   abbrev with_id : Bool → Stepped
   with_id spent = if spent then refused w world.IdsSpent else done (set_talk w (with_dispatch w.talk made v))
@@ -74,76 +75,77 @@ module _ (r : Common) (w : World) (c : ClientState) (stands : ClientStands r c w
   abbrev with_header : Bool → Stepped
   with_header opened = if not opened then refused w world.NotOpen else with_length (is_short (most r) (query_of made v))
 
-  closed_step : is_closed c.link ≡ true → dispatch r w made v ≡ refused w world.Closed
-  closed_step closed = ap (λ b. if b then refused w world.Closed else with_header (has_header w.got)) (sym shut ∙ closed)
+  closed_step : is_closed b.link ≡ true → dispatch r w made v ≡ refused w world.Closed
+  closed_step closed = ap (λ x. if x then refused w world.Closed else with_header (has_header w.got)) (sym shut ∙ closed)
 
-  going_step : is_closed c.link ≡ false → (b : Bool) → c.link.greeted ≡ b → dispatch r w made v ≡ with_header b
-  going_step going b greeted =
-      ap (λ x. if x then refused w world.Closed else with_header (has_header w.got)) (sym shut ∙ going) ∙ ap with_header (sym (opens going) ∙ greeted)
+  going_step : is_closed b.link ≡ false → (x : Bool) → b.link.greeted ≡ x → dispatch r w made v ≡ with_header x
+  going_step going x greeted =
+      ap (λ y. if y then refused w world.Closed else with_header (has_header w.got)) (sym shut ∙ going) ∙ ap with_header (sym (opens going) ∙ greeted)
 
-  -- ---- the client's, in the world's words
+  -- ---- the book's, in the world's words
 
-  limit : c.limits.max_message ≡ most r
-  limit = ap (λ (l : Limits). l.max_message) stands.limits
+  limit : b.limits.max_message ≡ most r
+  limit = limit_same r b w.talk (come w) heard
 
-  query_same : next_query c d v ≡ query_of made v
-  query_same =
-      ap (λ id. query_to d id (query_data d v)) (next_same w.talk.made c.rows stands.rows d.kind)
-      ∙ ap (query_to d made.id) (data_same d.kind (form_of d.query) v)
+  id_same : next_id d.kind b.made ≡ made.id
+  id_same = ap (next_id d.kind) heard.stands.made ∙ next_same w.talk.made d.kind
 
-  short_same : is_short c.limits.max_message (next_query c d v) ≡ is_short (most r) (query_of made v)
-  short_same = ap (λ m. is_short m (next_query c d v)) limit ∙ ap (is_short (most r)) query_same
+  query_same : booked_query b d v ≡ query_of made v
+  query_same = ap (λ id. query_to d id (query_data d v)) id_same ∙ ap (query_to d made.id) (data_same d.kind (form_of d.query) v)
 
-  full_same : is_full c d ≡ (is_tracked d.kind && nat_le r.limits.max_open (waiting_count (most r) (come w) w.talk.made))
+  short_same : is_short b.limits.max_message (booked_query b d v) ≡ is_short (most r) (query_of made v)
+  short_same = ap (λ m. is_short m (booked_query b d v)) limit ∙ ap (is_short (most r)) query_same
+
+  full_same : is_book_full b d ≡ (is_tracked d.kind && nat_le r.limits.max_open (waiting_count (most r) (come w) w.talk.made))
   full_same =
-      ap (λ (l : Limits). is_tracked d.kind && nat_le l.max_open (count_by is_waited_for c.rows)) stands.limits
-      ∙ ap (λ n. is_tracked d.kind && nat_le r.limits.max_open n) (waiting_same r c w.talk (come w) stands kept)
+      ap (λ (l : Limits). is_tracked d.kind && nat_le l.max_open (count_by (is_unfinished b) b.made)) heard.stands.limits
+      ∙ ap (λ n. is_tracked d.kind && nat_le r.limits.max_open n) (waiting_same r b w.talk (come w) heard)
 
-  spent_same : int_lt last_id (next_call_id d.kind c.rows) ≡ int_lt last_id made.id
-  spent_same = ap (int_lt last_id) (next_same w.talk.made c.rows stands.rows d.kind)
+  open_step : is_link_open b.link ≡ true → dispatch r w made v ≡ with_length (is_short (most r) (query_of made v))
+  open_step opened = let (greeted, going) = link_open b.link opened in going_step going true greeted
 
-  open_step : is_link_open c.link ≡ true → dispatch r w made v ≡ with_length (is_short (most r) (query_of made v))
-  open_step opened = let (greeted, going) = link_open c.link opened in going_step going true greeted
+  short_step : is_link_open b.link ≡ true → (x : Bool) → is_short b.limits.max_message (booked_query b d v) ≡ x → dispatch r w made v ≡ with_length x
+  short_step opened x short = open_step opened ∙ ap with_length (sym short_same ∙ short)
 
-  short_step : is_link_open c.link ≡ true → (b : Bool) → is_short c.limits.max_message (next_query c d v) ≡ b → dispatch r w made v ≡ with_length b
-  short_step opened b short = open_step opened ∙ ap with_length (sym short_same ∙ short)
+  full_step : is_link_open b.link ≡ true → is_short b.limits.max_message (booked_query b d v) ≡ true → (x : Bool) → is_book_full b d ≡ x → dispatch r w made v ≡ with_room x
+  full_step opened short x full = short_step opened true short ∙ ap with_room (sym full_same ∙ full)
 
-  full_step : is_link_open c.link ≡ true → is_short c.limits.max_message (next_query c d v) ≡ true → (b : Bool) → is_full c d ≡ b → dispatch r w made v ≡ with_room b
-  full_step opened short b full = short_step opened true short ∙ ap with_room (sym full_same ∙ full)
-
-  spent_step : is_link_open c.link ≡ true → is_short c.limits.max_message (next_query c d v) ≡ true → is_full c d ≡ false
-      → (b : Bool) → int_lt last_id (next_call_id d.kind c.rows) ≡ b → dispatch r w made v ≡ with_id b
-  spent_step opened short room b spent = full_step opened short false room ∙ ap with_id (sym spent_same ∙ spent)
+  spent_step : is_link_open b.link ≡ true → is_short b.limits.max_message (booked_query b d v) ≡ true → is_book_full b d ≡ false
+      → (x : Bool) → int_lt last_id (next_id d.kind b.made) ≡ x → dispatch r w made v ≡ with_id x
+  spent_step opened short room x spent = full_step opened short false room ∙ ap with_id (sym (ap (int_lt last_id) id_same) ∙ spent)
 
   -- ---- answers
 
   -- it is refused, and all is as it was
-  kept_goes : (e : DispatchError) (reason : Refusal) → dispatched_as (Err e) ≡ Some (Refused reason) → dispatch r w made v ≡ refused w reason → new ≡ c
-      → AsksAlong (dispatched_as (Err e)) r c w.talk (dispatch r w made v) new
+  kept_goes : (e : DispatchError) (reason : Refusal) → dispatched_as (Err e) ≡ Some (Refused reason) → dispatch r w made v ≡ refused w reason → new ≡ b
+      → AsksAlong (dispatched_as (Err e)) r b w.talk (dispatch r w made v) new
   kept_goes e reason tells step same =
-      subst (λ o. AsksAlong o r c w.talk (dispatch r w made v) new) (sym tells)
-      (subst (λ to. AsksAlong (Some (Refused reason)) r c w.talk to new) (sym step) (
+      subst (λ o. AsksAlong o r b w.talk (dispatch r w made v) new) (sym tells)
+      (subst (λ to. AsksAlong (Some (Refused reason)) r b w.talk to new) (sym step) (
         refl,
-        subst (CallsAlong r c.link w.talk w.talk) (sym same) (record { stands = stands; more = []; ups = sym (append-nil w.talk.ups); said = refl }),
+        subst (BooksAlong r b w.talk w.talk) (sym same) (record { stands = heard.stands; got = refl; more = []; ups = sym (append-nil w.talk.ups); said = refl }),
       ))
 
-  done_goes : dispatch r w made v ≡ done (set_talk w (with_dispatch w.talk made v)) → new ≡ after_dispatch c d v → AsksAlong (Some Done) r c w.talk (dispatch r w made v) new
-  done_goes step same =
-      subst (λ to. AsksAlong (Some Done) r c w.talk to new) (sym step) (
+  done_goes : dispatch r w made v ≡ done (set_talk w (with_dispatch w.talk made v)) → IsFresh b (next_id d.kind b.made) → new ≡ after_booking b label d v
+      → AsksAlong (Some Done) r b w.talk (dispatch r w made v) new
+  done_goes step fresh same =
+      subst (λ to. AsksAlong (Some Done) r b w.talk to new) (sym step) (
         refl,
-        subst (CallsAlong r c.link w.talk (with_dispatch w.talk made v)) (sym same) (record {
+        subst (BooksAlong r b w.talk (with_dispatch w.talk made v)) (sym same) (record {
           stands = record {
-            limits = stands.limits;
-            rows = rows_push w.talk.made c.rows made (new_row (next_call_id d.kind c.rows) d) stands.rows
-                (next_same w.talk.made c.rows stands.rows d.kind, refl, refl);
+            limits = heard.stands.limits;
+            made = ap (λ xs. xs ++ new_booked label (next_id d.kind b.made) d ∷ []) heard.stands.made
+                ∙ (ap (λ id. map booked_of w.talk.made ++ new_booked label id d ∷ []) id_same ∙ sym (made_push w.talk.made made));
+            ids = ids_push b.made (new_booked label (next_id d.kind b.made) d) heard.stands.ids fresh.unused;
           };
+          got = refl;
           more = query_of made v ∷ [];
           ups = refl;
-          said = ap (said c.link) query_same;
+          said = ap (said b.link) query_same;
         }),
       )
 
-  refused_goes : (e : DispatchError) → RefusesCall c d v e → new ≡ c → AsksAlong (dispatched_as (Err e)) r c w.talk (dispatch r w made v) new
+  refused_goes : (e : DispatchError) → RefusesBooking b d v e → new ≡ b → AsksAlong (dispatched_as (Err e)) r b w.talk (dispatch r w made v) new
   refused_goes undone.Closed closed same = kept_goes undone.Closed world.Closed refl (closed_step closed) same
   refused_goes undone.NotOpen (going, greeted) same = kept_goes undone.NotOpen world.NotOpen refl (going_step going false greeted) same
   refused_goes undone.BadValue (opened, unfit) same = absurd (unfit (subst (λ m. Fits m (form_of d.query) v) (sym limit) fits))
@@ -151,14 +153,14 @@ module _ (r : Common) (w : World) (c : ClientState) (stands : ClientStands r c w
   refused_goes (undone.TooManyOpen count) (((opened, fit), short), full, is) same =
       kept_goes (undone.TooManyOpen count) world.TooManyOpen refl (full_step opened short true full) same
   refused_goes (undone.IdsSpent next) ((((opened, fit), short), room), great, is) same =
-      kept_goes (undone.IdsSpent next) world.IdsSpent refl (spent_step opened short room true (lt-ltb (2 ^ 61) (next_number d.kind c.rows) great)) same
+      kept_goes (undone.IdsSpent next) world.IdsSpent refl (spent_step opened short room true (lt-ltb (2 ^ 61) (next_id_number d.kind b.made) great)) same
   refused_goes undone.OutOfMemory u same = same
 
-  -- A dispatch has the answer that it has in the world, and the client stands for the talk behind it; what it said is what goes up by it.
-  pub dispatch_goes : IsDispatched c d v result new → Along (dispatch r w made v)
+  -- A dispatch has the answer that it has in the world, and the book stands for the talk behind it; what it said is what goes up by it.
+  pub dispatch_goes : IsBooked b label d v result new → Along (dispatch r w made v)
   dispatch_goes did = by result did
     where
-      by : (x : Result Ticket DispatchError) → IsDispatched c d v x new → AsksAlong (dispatched_as x) r c w.talk (dispatch r w made v) new
-      by (Ok ticket) (((((opened, fit), short), room), few), id, same) =
-          done_goes (spent_step opened short room false (le-ltb (2 ^ 61) (next_number d.kind c.rows) few)) same
+      by : (x : Result Ticket DispatchError) → IsBooked b label d v x new → AsksAlong (dispatched_as x) r b w.talk (dispatch r w made v) new
+      by (Ok ticket) (((((opened, fit), short), room), few), id, same, fresh) =
+          done_goes (spent_step opened short room false (le-ltb (2 ^ 61) (next_id_number d.kind b.made) few)) (subst (IsFresh b) id fresh) same
       by (Err e) (refuses, same) = refused_goes e refuses same

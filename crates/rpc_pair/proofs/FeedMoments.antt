@@ -29,6 +29,11 @@ abbrev pub side_behind : List Message → Side → ℕ → ℕ → ℕ → Side
 side_behind log side now before after =
     record { cause = side.cause; heard = heard_since side now (frame_count log before) (frame_count log after); sent = side.sent }
 
+-- that of no more is as it was
+pub side_still : (log : List Message) (side : Side) (now n : ℕ) → side_behind log side now n n ≡ side
+side_still log side now n = ap (λ (h : ℕ). record { cause = side.cause; heard = h; sent = side.sent })
+    (ap (λ c. if c then now else side.heard) (le-ltb (frame_count log n) (frame_count log n) (omega arith)))
+
 header_first : (log : List Message) (n : ℕ) → has_first (came_bodies log n) ≡ has_header n
 header_first log n = by (has_header n)
   where

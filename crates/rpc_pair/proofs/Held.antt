@@ -1,52 +1,24 @@
--- What the calls of a client hold, in the world's words, where what came to it is all accepted.
-use Rattle.std.proofs.Common.{◌≡◌, refl, sym, ap, ◌∙◌, subst, ℕ, Bool, true, false, not, ◌&&◌, List}
-use Rattle.std.specs.Prelude.{Option, Some, None}
+-- What a book holds of its dispatches, in the world's words, where what it got are the messages that came, and all of these are accepted.
+use Rattle.std.proofs.Common.{◌≡◌, refl, ap, ◌∙◌, ℕ, Bool, true, false, not, ◌&&◌, if◌then◌else◌, List, [], ◌∷◌, map}
+use Rattle.std.specs.Prelude.{Option, Some, None, fold}
 use Rattle.std.specs.List.{count_by}
-use Rattle.readers.specs.Reader.{Each}
 use Rattle.bp_value.specs.declared.value.Value.{Value}
 use Rattle.rpc_msg.specs.declared.message.Message.{Message}
-use Rattle.rpc_schema.specs.declared.desc.RpcDesc.{RpcDesc}
+use Rattle.rpc_msg.specs.declared.shared.Limits.{Limits}
 use Rattle.rpc_log.specs.Logs.{log_of, responses_of}
-use Rattle.rpc_talk.specs.Parts.{CallParts, Fate, Goes_on, Ends, Broken, held_by, is_ended, is_tracked, parts_of, cut_ending}
-use Rattle.rpc_talk.specs.Welcome.{accepted, held}
+use Rattle.rpc_talk.specs.Acts.{is_menu}
+use Rattle.rpc_talk.specs.Parts.{Fate, Goes_on, Ends, Broken, cut_ending, held_by, is_ended, is_tracked, parts_of}
+use Rattle.rpc_talk.specs.Welcome.{accepted}
 use Rattle.rpc_end.specs.Ends.{is_closed}
-use Rattle.rpc_meeting.specs.Menus.{reply_or}
-use Rattle.rpc_meeting.specs.Talks.{Common, Dispatch, Talk, all_called, called_by, parts_in, received, waiting_count, waits_still}
-use Rattle.rpc_client.specs.Clients.{ClientState}
-use Rattle.rpc_client.specs.Kept.{HasGot, HaveOwnIds, IsAt, IsKept, IsPhase, row_calls}
-use Rattle.rpc_client.specs.Rows.{Row, is_done}
-use Rattle.rpc_client.specs.Tables.{is_waited_for}
-use Rattle.rpc_client.specs.declared.entry.Phase.{Phase}
-use Rattle.rpc_client.specs.declared.entry.Phase.TheVariants as phase
+use Rattle.rpc_meeting.specs.Menus.{last_menu, menu_or, reply_or}
+use Rattle.rpc_meeting.specs.Talks.{Common, Dispatch, Talk, all_called, parts_in, received, waiting_count, waits_still}
 use Rattle.rpc_meeting.proofs.Lines.{most}
-use Rattle.rpc_pair.specs.Callers.{ClientStands, IsRowOf}
-use Rattle.rpc_pair.proofs.CallRows.{count_same}
+use Rattle.rpc_book.specs.Books.{BookState, accepted_in, calls_of, held_in, messages_of, parts_booked}
+use Rattle.rpc_book.specs.Calls.{is_unfinished}
+use Rattle.rpc_pair.specs.Standing.{BookStands, booked_menu, booked_of, menu_held_or}
+use Rattle.rpc_pair.proofs.Bookings.{calls_same, count_same}
 
--- what these messages make of each call is what its row has, and no two calls have the same id
-pub record IsKeptBy (r : Common) (c : ClientState) (come : List Message) : Type 0 where
-  pub rows : Each (λ row. IsKept (most r) (is_closed c.link) (responses_of row.id come) row) c.rows
-  pub apart : HaveOwnIds c.rows
-
--- a client that got bytes whose messages these are, and accepts all of them
-pub kept_got : (r : Common) (c : ClientState) (got : List ℕ) (come : List Message) → c.limits ≡ r.limits → HasGot c got → log_of (most r) got ≡ come
-    → accepted (most r) (row_calls c.rows) come ≡ come → IsKeptBy r c come
-kept_got r c got come limits has log all =
-    let max : c.link.max ≡ most r = has.max ∙ ap (λ l. l.max_message) limits in
-    record {
-      rows = subst (λ xs. Each (λ row. IsKept (most r) (is_closed c.link) (responses_of row.id xs) row) c.rows)
-          (ap (accepted (most r) (row_calls c.rows)) log ∙ all)
-          (subst (λ m. Each (λ row. IsKept m (is_closed c.link) (responses_of row.id (accepted m (row_calls c.rows) (log_of m got))) row) c.rows) max has.kept);
-      apart = has.calls.apart;
-    }
-
--- ---- what a dispatch received
-
--- what a call holds is what its dispatch received
-pub held_received : (m : ℕ) (made : List Dispatch) (come : List Message) (d : Dispatch) (closed : Bool) → accepted m (all_called made) come ≡ come
-    → held m (all_called made) come (called_by d) d.cut closed ≡ received m come closed d
-held_received m made come d closed all = ap (λ log. held_by (parts_of m d.desc (responses_of d.id log)) d.cut closed) all
-
--- the reply that a menu gave is the same once the client is closed
+-- the reply that a menu gave is the same once the book is closed
 pub reply_closed : (m : ℕ) (come : List Message) (d : Dispatch) (older : Option Value) (closed : Bool)
     → reply_or older (received m come closed d).ending ≡ reply_or older (received m come false d).ending
 reply_closed m come d older closed = by d.cut (parts_in m come d).mark closed
@@ -59,26 +31,53 @@ reply_closed m come d older closed = by d.cut (parts_in m come d).mark closed
     by None Broken true = refl
     by None Broken false = refl
 
--- ---- how many are waited for
+-- what a book got reads as these messages, and it accepts all of them
+pub record HasHeard (r : Common) (b : BookState) (t : Talk) (come : List Message) : Type 0 where
+  pub stands : BookStands r b t
+  pub read : log_of (most r) b.got ≡ come
+  pub all : accepted (most r) (all_called t.made) come ≡ come
 
-phase_ended : (p : CallParts) (at : Phase) → IsAt at p → is_done at ≡ is_ended p.mark
-phase_ended p phase.First (going, none) = sym (ap is_ended going)
-phase_ended p phase.Begun (going, some) = sym (ap is_ended going)
-phase_ended p phase.Done (e, ends) = sym (ap is_ended ends)
+module _ (r : Common) (b : BookState) (t : Talk) (come : List Message) (heard : HasHeard r b t come) where
+  pub limit_same : b.limits.max_message ≡ most r
+  limit_same = ap (λ (l : Limits). l.max_message) heard.stands.limits
 
-row_waits : (b : Bool) (p : CallParts) (row : Row) → IsPhase b row.phase p → (b && not (is_done row.phase)) ≡ (b && not (is_ended p.mark))
-row_waits true p row at = ap not (phase_ended p row.phase at)
-row_waits false p row at = refl
+  pub calls_here : calls_of b.made ≡ all_called t.made
+  calls_here = ap calls_of heard.stands.made ∙ calls_same t.made
 
-module _ (r : Common) (c : ClientState) (t : Talk) (come : List Message) (stands : ClientStands r c t) (kept : IsKeptBy r c come) where
-  waits_same : (d : Dispatch) (row : Row) → IsRowOf d row → IsKept (most r) (is_closed c.link) (responses_of row.id come) row → is_waited_for row ≡ waits_still (most r) come d
-  waits_same d row (id, desc, cut) k =
-      row_waits (is_tracked row.desc.kind) (parts_of (most r) row.desc (responses_of row.id come)) row k.phase
-      ∙ (ap (λ (x : RpcDesc). is_tracked x.kind && not (is_ended (parts_of (most r) x (responses_of row.id come)).mark)) desc
-      ∙ ap (λ i. is_tracked d.desc.kind && not (is_ended (parts_of (most r) d.desc (responses_of i come)).mark)) id)
+  pub messages_same : messages_of b ≡ come
+  messages_same = ap (λ m. log_of m b.got) limit_same ∙ heard.read
 
-  -- the calls that wait for an answer
-  pub waiting_same : count_by is_waited_for c.rows ≡ waiting_count (most r) come t.made
+  pub accepted_same : accepted_in b ≡ come
+  accepted_same =
+      ap (λ m. accepted m (calls_of b.made) (messages_of b)) limit_same
+      ∙ (ap (λ calls. accepted (most r) calls (messages_of b)) calls_here ∙ (ap (accepted (most r) (all_called t.made)) messages_same ∙ heard.all))
+
+  -- what the messages make of a dispatch
+  pub parts_same : (d : Dispatch) → parts_booked b (booked_of d) ≡ parts_in (most r) come d
+  parts_same d =
+      ap (λ m. parts_of m d.desc (responses_of d.id (accepted_in b))) limit_same ∙ ap (λ log. parts_of (most r) d.desc (responses_of d.id log)) accepted_same
+
+  -- what a dispatch holds is what it received
+  pub held_same : (d : Dispatch) → held_in b (booked_of d) ≡ received (most r) come (is_closed b.link) d
+  held_same d = ap (λ p. held_by p d.cut (is_closed b.link)) (parts_same d)
+
+  -- the dispatches that wait for an answer
+  pub waiting_same : count_by (is_unfinished b) b.made ≡ waiting_count (most r) come t.made
   waiting_same =
-      count_same (λ row. IsKept (most r) (is_closed c.link) (responses_of row.id come) row) is_waited_for (waits_still (most r) come) waits_same t.made c.rows stands.rows
-      kept.rows
+      ap (count_by (is_unfinished b)) heard.stands.made
+      ∙ count_same (is_unfinished b) (waits_still (most r) come) (λ d. ap (λ p. is_tracked d.desc.kind && not (is_ended p.mark)) (parts_same d)) t.made
+
+  -- ---- the menu
+
+  menu_one : (older : Option Value) (d : Dispatch) → menu_held_or b older (booked_of d) ≡ menu_or (most r) come older d
+  menu_one older d =
+      ap (λ o. if is_menu d.desc.name d.desc.version then o else older)
+      (ap (λ h. reply_or older h.ending) (held_same d) ∙ reply_closed (most r) come d older (is_closed b.link))
+
+  menu_all : (older : Option Value) (made : List Dispatch) → fold (menu_held_or b) older (map booked_of made) ≡ fold (menu_or (most r) come) older made
+  menu_all older [] = refl
+  menu_all older (d ∷ made) = ap (λ o. fold (menu_held_or b) o (map booked_of made)) (menu_one older d) ∙ menu_all (menu_or (most r) come older d) made
+
+  -- The last menu that the book holds is the world's.
+  pub menu_same : booked_menu b ≡ last_menu (most r) come t.made
+  menu_same = ap (fold (menu_held_or b) None) heard.stands.made ∙ menu_all None t.made

@@ -218,47 +218,44 @@ module _ (r : Common) (n : ℕ) (side : Side) (now : ℕ) (e : EndState) (s : Li
 
 -- ---- the world's moments
 
-abbrev with_ups : Talk → List Message → Talk
+-- more goes up, and down
+abbrev pub with_ups : Talk → List Message → Talk
 with_ups t more = record { ups = t.ups ++ more; downs = t.downs; made = t.made; queries = t.queries }
 
-abbrev with_downs : Talk → List Message → Talk
+abbrev pub with_downs : Talk → List Message → Talk
 with_downs t more = record { ups = t.ups; downs = t.downs ++ more; made = t.made; queries = t.queries }
 
 module _ (r : Common) (w : World) where
-  abbrev IsClientTicked : Side → List Message → World → Type 0
-  IsClientTicked side more new =
-      (new.client ≡ side) × (new.talk ≡ with_ups w.talk more) × (new.server ≡ w.server) × (new.up ≡ w.up) × (new.down ≡ w.down) × (new.got ≡ w.got) × (new.now ≡ w.now)
-
   none_up : with_ups w.talk [] ≡ w.talk
   none_up = ap (λ l. record { ups = l; downs = w.talk.downs; made = w.talk.made; queries = w.talk.queries }) (append-nil w.talk.ups)
 
   -- a moment of the client is that of its side
-  pub client_ticked : IsClientTicked (ticked_side r w.got w.now w.client) (beats r w.got w.now w.client) (tick_client r w)
+  pub client_ticked : tick_client r w ≡ set_talk (set_client w (ticked_side r w.got w.now w.client)) (with_ups w.talk (beats r w.got w.now w.client))
   client_ticked = by (is_shut w.client) (is_late r w.now w.client) (has_header w.got && is_due r w.now w.client)
     where
-      by : (a b c : Bool) → IsClientTicked (if a then w.client else if b then close_side w.client (Late w.client.heard w.now) else if c then sent_at w.client w.now else w.client)
-          (if a then [] else if b then [] else if c then message.Heartbeat ∷ [] else [])
-          (if a then w else if b then set_client w (close_side w.client (Late w.client.heard w.now)) else if c then set_talk (set_client w (sent_at w.client w.now)) (up_beat w.talk) else w)
-      by true b c = (refl, sym none_up, refl, refl, refl, refl, refl)
-      by false true c = (refl, sym none_up, refl, refl, refl, refl, refl)
-      by false false true = (refl, refl, refl, refl, refl, refl, refl)
-      by false false false = (refl, sym none_up, refl, refl, refl, refl, refl)
-
-  abbrev IsServerTicked : Side → List Message → World → Type 0
-  IsServerTicked side more new =
-      (new.server ≡ side) × (new.talk ≡ with_downs w.talk more) × (new.client ≡ w.client) × (new.up ≡ w.up) × (new.down ≡ w.down) × (new.got ≡ w.got) × (new.now ≡ w.now)
+      by : (a b c : Bool)
+          → (if a then w else if b then set_client w (close_side w.client (Late w.client.heard w.now)) else if c then set_talk (set_client w (sent_at w.client w.now)) (up_beat w.talk) else w)
+          ≡ set_talk
+          (set_client w (if a then w.client else if b then close_side w.client (Late w.client.heard w.now) else if c then sent_at w.client w.now else w.client))
+          (with_ups w.talk (if a then [] else if b then [] else if c then message.Heartbeat ∷ [] else []))
+      by true b c = ap (set_talk w) (sym none_up)
+      by false true c = ap (set_talk (set_client w (close_side w.client (Late w.client.heard w.now)))) (sym none_up)
+      by false false true = refl
+      by false false false = ap (set_talk w) (sym none_up)
 
   none_down : with_downs w.talk [] ≡ w.talk
   none_down = ap (λ l. record { ups = w.talk.ups; downs = l; made = w.talk.made; queries = w.talk.queries }) (append-nil w.talk.downs)
 
   -- and one of the server
-  pub server_ticked : IsServerTicked (ticked_side r w.up w.now w.server) (beats r w.up w.now w.server) (tick_server r w)
+  pub server_ticked : tick_server r w ≡ set_talk (set_server w (ticked_side r w.up w.now w.server)) (with_downs w.talk (beats r w.up w.now w.server))
   server_ticked = by (is_shut w.server) (is_late r w.now w.server) (has_header w.up && is_due r w.now w.server)
     where
-      by : (a b c : Bool) → IsServerTicked (if a then w.server else if b then close_side w.server (Late w.server.heard w.now) else if c then sent_at w.server w.now else w.server)
-          (if a then [] else if b then [] else if c then message.Heartbeat ∷ [] else [])
-          (if a then w else if b then set_server w (close_side w.server (Late w.server.heard w.now)) else if c then set_talk (set_server w (sent_at w.server w.now)) (down_beat w.talk) else w)
-      by true b c = (refl, sym none_down, refl, refl, refl, refl, refl)
-      by false true c = (refl, sym none_down, refl, refl, refl, refl, refl)
-      by false false true = (refl, refl, refl, refl, refl, refl, refl)
-      by false false false = (refl, sym none_down, refl, refl, refl, refl, refl)
+      by : (a b c : Bool)
+          → (if a then w else if b then set_server w (close_side w.server (Late w.server.heard w.now)) else if c then set_talk (set_server w (sent_at w.server w.now)) (down_beat w.talk) else w)
+          ≡ set_talk
+          (set_server w (if a then w.server else if b then close_side w.server (Late w.server.heard w.now) else if c then sent_at w.server w.now else w.server))
+          (with_downs w.talk (if a then [] else if b then [] else if c then message.Heartbeat ∷ [] else []))
+      by true b c = ap (set_talk w) (sym none_down)
+      by false true c = ap (set_talk (set_server w (close_side w.server (Late w.server.heard w.now)))) (sym none_down)
+      by false false true = refl
+      by false false false = ap (set_talk w) (sym none_down)

@@ -12,13 +12,13 @@ use Rattle.rpc_meeting.specs.Talks.{Common, Talk, heard_up}
 use Rattle.rpc_meeting.specs.Worlds.{Side, World, arrived, came_log, frame_count, has_header, header_size, stream_of, up_talk, whole}
 use Rattle.rpc_meeting.proofs.Goods.{heard_all}
 use Rattle.rpc_meeting.proofs.Whole.{le_true, tells_le, whole_grows}
-use Rattle.rpc_client.specs.Clients.{ClientState}
+use Rattle.rpc_book.specs.Books.{BookState}
 use Rattle.rpc_server.specs.Servers.{ServerState}
 use Rattle.rpc_pair.specs.Links.{LinkStands}
 use Rattle.rpc_pair.specs.Rules.{IsOfSchema}
-use Rattle.rpc_pair.proofs.ClientFeeds.{GetsOn, IsClientAt}
+use Rattle.rpc_pair.proofs.BookFeeds.{GetsOn, IsBookAt}
 use Rattle.rpc_pair.proofs.FeedMoments.{side_behind}
-use Rattle.rpc_pair.proofs.Given.{given_came, given_log, none_whole}
+use Rattle.rpc_pair.proofs.Given.{given_came, none_whole}
 use Rattle.rpc_pair.proofs.Sendable.{downs_opened, downs_within, ups_opened, ups_within}
 use Rattle.rpc_pair.proofs.ServerFeeds.{IsServerAt, MovesOn}
 
@@ -69,19 +69,24 @@ pub log_join : (a b : List Message) → frames (map body_of (a ++ b)) ≡ frames
 log_join [] b = refl
 log_join (x ∷ a) b = ap (λ l. frame (body_of x) ++ l) (log_join a b) ∙ sym (append_assoc (frame (body_of x)) (frames (map body_of a)) (frames (map body_of b)))
 
-module _ (r : Common) (now : ℕ) (t : Talk) (given mid after : List ℕ) (le : length given ≤ length mid) (more : length mid ≤ length after) where
-  -- of a client
-  pub gets_join : (c one two : ClientState) (up come : List Message) (first : GetsOn r now c t given mid up come one) → GetsOn r now one t mid after up (come ++ first.fresh) two
-      → GetsOn r now c t given after up come two
-  gets_join c one two up come first second = record {
-    fresh = first.fresh ++ second.fresh;
-    at = subst (IsClientAt r two t after up) (append_assoc come first.fresh second.fresh) second.at;
-    output = second.output ∙ first.output;
-    moments = λ side stands. subst (λ x. LinkStands r (length after) x now two.link) (sides_join t.downs side now (length given) (length mid) (length after) le more)
-        (second.moments (side_behind t.downs side now (length given) (length mid)) (first.moments side stands));
-  }
+-- of a book
+pub gets_join : (r : Common) (now : ℕ) (t : Talk) (b one two : BookState) (first second : List ℕ) (up come : List Message) (gets : GetsOn r now b t first up come one)
+    → GetsOn r now one t second up (come ++ gets.fresh) two → GetsOn r now b t (first ++ second) up come two
+gets_join r now t b one two first second up come gets more =
+    let long : length b.got ≤ length one.got = omega (arith, ap length gets.got, length-append b.got first) in
+    let longer : length one.got ≤ length two.got = omega (arith, ap length more.got, length-append one.got second) in
+    record {
+      fresh = gets.fresh ++ more.fresh;
+      at = subst (IsBookAt r two t up) (append_assoc come gets.fresh more.fresh) more.at;
+      got = more.got ∙ (ap (λ g. g ++ second) gets.got ∙ append_assoc b.got first second);
+      output = more.output ∙ gets.output;
+      moments = λ side stands. subst (λ x. LinkStands r (length two.got) x now two.link)
+          (sides_join t.downs side now (length b.got) (length one.got) (length two.got) long longer)
+          (more.moments (side_behind t.downs side now (length b.got) (length one.got)) (gets.moments side stands));
+    }
 
-  -- and of a server
+-- and of a server
+module _ (r : Common) (now : ℕ) (t : Talk) (given mid after : List ℕ) (le : length given ≤ length mid) (more : length mid ≤ length after) where
   pub moves_join : (s one two : ServerState) (came got : List Message) (first : MovesOn r now s t given mid came got one)
       → MovesOn r now one (fold (heard_up r) t first.fresh) mid after (came ++ first.fresh) got two → MovesOn r now s t given after came got two
   moves_join s one two came got first second =
@@ -123,12 +128,12 @@ module _ (r : Common) (is : IsOfSchema r) (t : Talk) (given tail : List ℕ) whe
       given_came r is t.ups (ups_within r is t at.meets.carried) (ups_opened r is t at.meets.carried) given tail cut bytes s.link at.bodies came at.max at.took
       ∙ came_whole t.ups (length given)
 
-  -- and to a client
-  pub client_came : (c : ClientState) (up come : List Message) → IsClientAt r c t given up come → given ++ tail ≡ stream_of t.downs → Each IsByte given
-      → come ≡ whole t.downs (length given - header_size)
-  client_came c up come at cut bytes =
-      sym at.read
-      ∙ (given_log r is t.downs (downs_within r is t at.meets.carried) (downs_opened r is t at.meets.carried) given tail cut bytes ∙ came_whole t.downs (length given))
+-- and to a book
+pub book_came : (r : Common) (is : IsOfSchema r) (b : BookState) (t : Talk) (tail : List ℕ) (up come : List Message) → IsBookAt r b t up come → b.got ++ tail ≡ stream_of t.downs
+    → come ≡ whole t.downs (length b.got - header_size)
+book_came r is b t tail up come at cut =
+    given_came r is t.downs (downs_within r is t at.meets.carried) (downs_opened r is t at.meets.carried) b.got tail cut at.bytes b.link at.bodies come at.max at.took
+    ∙ came_whole t.downs (length b.got)
 
 drop_front : (xs ys : List Message) → drop (length xs) (xs ++ ys) ≡ ys
 drop_front [] ys = refl

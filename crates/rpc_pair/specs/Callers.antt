@@ -1,45 +1,29 @@
--- What is seen of a client stands for a talk, and goes along with it.
-use Rattle.std.specs.Prelude.{◌≡◌, List, [], ◌∷◌, ◌++◌, Option, Some, None, Result, Ok, Err}
+-- A book that goes along with a talk: what it answers is what the world answers, and what it says is what goes up.
+use Rattle.std.specs.Prelude.{◌≡◌, List, ◌++◌, Option, Some, None, Result, Ok, Err}
 use Rattle.rpc_msg.specs.declared.message.Message.{Message}
 use Rattle.rpc_msg.specs.declared.shared.Ticket.{Ticket}
-use Rattle.rpc_end.specs.Ends.{EndState}
 use Rattle.rpc_meeting.specs.declared.answer.Refusal.TheVariants as world
 use Rattle.rpc_meeting.specs.declared.answer.StepAnswer.{StepAnswer}
 use Rattle.rpc_meeting.specs.declared.answer.StepAnswer.TheVariants.{Done, Refused}
 use Rattle.rpc_meeting.specs.Steps.{Stepped}
-use Rattle.rpc_meeting.specs.Talks.{Common, Dispatch, Talk}
-use Rattle.rpc_client.specs.Clients.{ClientState}
-use Rattle.rpc_client.specs.Rows.{Row}
+use Rattle.rpc_meeting.specs.Talks.{Common, Talk}
 use Rattle.rpc_client.specs.declared.error.AbortError.{AbortError}
 use Rattle.rpc_client.specs.declared.error.AbortError.TheVariants as unstopped
 use Rattle.rpc_client.specs.declared.error.DispatchError.{DispatchError}
 use Rattle.rpc_client.specs.declared.error.DispatchError.TheVariants as undone
+use Rattle.rpc_book.specs.Books.{BookState}
+use Rattle.rpc_pair.specs.Standing.{BookStands}
 use Rattle.rpc_pair.specs.Stands.{all_said}
 
--- the call of a dispatch: its id and procedure, and how many parts it had when it was aborted
-abbrev pub IsRowOf : Dispatch → Row → Type 0
-IsRowOf d row = (row.id ≡ d.id) × (row.desc ≡ d.desc) × (row.cut ≡ d.cut)
-
--- those of all dispatches, in order
-abbrev pub AreRowsOf : List Dispatch → List Row → Type 0
-AreRowsOf [] [] = Unit {0}
-AreRowsOf [] (row ∷ rows) = ⊥
-AreRowsOf (d ∷ made) [] = ⊥
-AreRowsOf (d ∷ made) (row ∷ rows) = IsRowOf d row × AreRowsOf made rows
-
--- its limits are those of the world, and its calls the dispatches that were made
-pub record ClientStands (r : Common) (c : ClientState) (t : Talk) : Type 0 where
-  pub limits : c.limits ≡ r.limits
-  pub rows : AreRowsOf t.made c.rows
-
--- it stands for the talk as that went on, and what it said, from where its link was so, is just what the talk has more that goes up
-pub record CallsAlong (r : Common) (link : EndState) (old now : Talk) (c : ClientState) : Type 0 where
-  pub stands : ClientStands r c now
+-- it got nothing and stands for the talk as that went on, and what it said is just what the talk has more that goes up
+pub record BooksAlong (r : Common) (b : BookState) (old now : Talk) (new : BookState) : Type 0 where
+  pub stands : BookStands r new now
+  pub got : new.got ≡ b.got
   pub more : List Message
   pub ups : now.ups ≡ old.ups ++ more
-  pub said : c.link ≡ all_said link more
+  pub said : new.link ≡ all_said b.link more
 
--- ---- what the world answers where the client answers so; nothing where memory ran out
+-- ---- what the world answers where a book answers so; nothing where memory ran out
 
 abbrev pub dispatched_as : Result Ticket DispatchError → Option StepAnswer
 dispatched_as (Ok ticket) = Some Done
@@ -60,7 +44,7 @@ aborted_as (Err unstopped.NotStream) = Some (Refused world.NotStream)
 aborted_as (Err unstopped.NotBegun) = Some (Refused world.NotBegun)
 aborted_as (Err unstopped.OutOfMemory) = None
 
--- the world answers the same, and the client goes along; or it is as it was
-abbrev pub AsksAlong : Option StepAnswer → Common → ClientState → Talk → Stepped → ClientState → Type 0
-AsksAlong (Some answer) r old t to new = (to.outcome ≡ answer) × CallsAlong r old.link t to.world.talk new
+-- the world answers the same, and the book goes along; or it is as it was
+abbrev pub AsksAlong : Option StepAnswer → Common → BookState → Talk → Stepped → BookState → Type 0
+AsksAlong (Some answer) r old t to new = (to.outcome ≡ answer) × BooksAlong r old t to.world.talk new
 AsksAlong None r old t to new = new ≡ old

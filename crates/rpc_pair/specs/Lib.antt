@@ -2,3 +2,16 @@ pub mod Rules
 pub mod Stands
 pub mod Callers
 pub mod Links
+pub mod Standing
+pub mod Runs
+pub mod Moving
+pub mod Feeds
+pub mod Outputs
+pub mod Made
+pub mod Texts
+pub mod Kept
+pub mod Menus
+pub mod Pairs
+pub mod Asked
+pub mod Tellings
+pub mod Wires

@@ -1,5 +1,23 @@
-//! Both ends of a connection as a pair: what is seen of each stands for the world of two ends.
-//!
-//! It has definitions (`specs/`) and proofs (`proofs/`) alone so far, and no code of its own: the
-//! public values of the server and the client against the world of `rpc_meeting`.
+//! Both ends of a connection as a pair, which the events of a schedule drive over two wires.
 #![tactic(auto)]
+
+mod asking;
+mod carry;
+mod error;
+mod finding;
+mod menus;
+mod moved;
+mod pair;
+mod party;
+mod put;
+mod telling;
+#[cfg(test)]
+mod tests;
+mod texts;
+
+pub use error::PairError;
+pub use moved::Moved;
+pub use pair::Pair;
+pub use rpc_book::{Book, Made};
+pub use rpc_meeting::{Refusal, StepAnswer};
+pub use rpc_schedule::{Event, Lined, Schedule, ScheduleError};

@@ -1,0 +1,10 @@
+-- The value that a text is of a form, within a limit.
+use Rattle.std.specs.Prelude.{ℕ, List, Option, Some, None}
+use Rattle.bp_value.specs.declared.value.Value.{Value}
+use Rattle.bp_value.specs.Fits.{Fits}
+use Rattle.bp_value.specs.Form.{Form}
+use Rattle.bp_text_grammar.specs.WholeTexts.{IsValueText}
+
+abbrev pub IsReadAs : ℕ → Form → List ℕ → Option Value → Type 0
+IsReadAs m form text None = (v : Value) → IsValueText form v text → Fits m form v → ⊥
+IsReadAs m form text (Some v) = IsValueText form v text × Fits m form v

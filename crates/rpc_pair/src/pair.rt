@@ -1,0 +1,486 @@
+// Both ends of a connection.
+ghost use Rattle.std.specs.Prelude.{◌≡◌, ◌+◌, ◌≤◌, IfOk, IsErrOf, OnOk};
+ghost use Rattle.bp_base.specs.Faults.{BothGoOn, GoesOn};
+ghost use Rattle.rpc_meeting.specs.Steps.{moved_bytes};
+ghost use Rattle.rpc_pair.specs.Kept.{most_piece};
+ghost use Rattle.rpc_msg.specs.Limits.{AreLimits};
+ghost use Rattle.rpc_schedule.specs.declared.event.Event.TheVariants as ev;
+ghost use Rattle.rpc_pair.specs.declared.error.PairError.TheVariants as error;
+
+use crate::asking::{abort, call, call_text};
+use crate::carry::carry;
+use crate::error::PairError;
+use crate::finding::{called_versions, is_called, line, under};
+use crate::menus::last_menu;
+use crate::moved::Moved;
+use crate::put::put_out;
+use crate::telling::{Telling, end, fail, is_stream, is_tracked, tell_text};
+use bp_base::Wire;
+use bp_value::{Blob, OutOfMemory, Value};
+use rpc_book::Book;
+use rpc_meeting::{Refusal, StepAnswer};
+use rpc_msg::{Limits, Received, Ticket};
+use rpc_schedule::Event;
+use rpc_schema::{Schema, best, menu_desc};
+use rpc_server::Server;
+use std::alloc::Global;
+use std::marker::Model;
+
+/// The most bytes of a piece.
+const MAX_PIECE: usize = 65536;
+
+/// Both ends of a connection, whose bytes go over two wires: `up` to the server, and `down` to the
+/// client. After each step all that an end had to say is put.
+///
+/// Over honest wires each dispatch receives just what its own query's handler sent of which the
+/// frames came, and neither end is at fault to the other.
+#[derive(Drop)]
+pub struct Pair {
+    book: Book,
+    server: Server,
+    limits: Limits,
+    moment: u64,
+    moved: Moved,
+    buffer: Vec<u8>,
+    alloc: Global,
+}
+
+impl Model for Pair {
+    ghost use Rattle.bp_value.specs.contracts.shape.Shape as shape;
+    ghost use Rattle.bp_value.specs.contracts.value.Sexp as sexp;
+    ghost use Rattle.bp_value.specs.contracts.value.Value as value;
+    ghost use Rattle.std.specs.Coded.{codes};
+    ghost use Rattle.rpc_pair.specs.Pairs.{PairState};
+    ghost use Rattle.rpc_pair.specs.Kept.{IsPair};
+
+    ghost Value = { PairState };
+
+    ghost coded = { Prim.hlevel
+        (codes, shape.the_row.coded, value.the_row.coded, sexp.the_row.coded) };
+
+    ghost view = { λ p.
+        record { book = p.book; server = p.server; now = p.moment; moved = p.moved } };
+
+    ghost invariant = { λ p. IsPair p.book p.server p.limits p.buffer.items };
+}
+
+impl Pair {
+    ghost use Rattle.rpc_meeting.specs.Talks.{Common};
+    ghost use Rattle.rpc_meeting.specs.Worlds.{first_world, World};
+    ghost use Rattle.rpc_pair.specs.Pairs.{AsksLineOf, Comes, IsDeedAt, IsMovable, IsNewPair, IsQuiet, ShowsLabel, StartsAs};
+    ghost use Rattle.rpc_pair.specs.Tellings.{told_event};
+    ghost use Rattle.rpc_pair.specs.Wires.{ActsOver, IsHonestly, MovesDownOver, MovesUpOver, PutsOver, StandsOver, StartsOver, StepsTo, TurnsOver};
+
+    /// A pair at the moment 0, whose ends have one schema and the same limits.
+    pub fn new(alloc: Global, schema: Schema, limits: Limits) -> Result<Pair, OutOfMemory>
+        requires { AreLimits limits }
+        ensures { IfOk result (IsNewPair schema limits) }
+    {
+        Ok(Pair {
+            book: Book::new(alloc, limits, 0)?,
+            server: Server::new(alloc, schema, limits, 0)?,
+            limits,
+            moment: 0,
+            moved: Moved {
+                up: 0,
+                up_put: 0,
+                down: 0,
+                down_put: 0,
+            },
+            buffer: vec![in alloc; 0; MAX_PIECE]?,
+            alloc,
+        })
+    }
+
+    /// Puts both headers to wires of which nothing was used.
+    pub fn start<W: Wire>(&mut self, up: &mut W, down: &mut W) -> Result<(), PairError>
+        requires { StartsAs self.old }
+        ensures wires { BothGoOn W.faults W.honest up.old up.new down.old down.new
+            (IsErrOf result error.WireFault) }
+        ensures puts { OnOk result
+            (PutsOver W.sent W.given self.old self.new up.old up.new down.old down.new) }
+        ensures stands { (r : Common) → StartsOver W.sent W.given r self.old up.old down.old
+            → OnOk result (StandsOver W.sent W.given r first_world self.new up.new down.new) }
+    {
+        self.put_all(up, down)
+    }
+
+    /// Does what an event asks for, if it is not refused.
+    pub fn step<W: Wire>(
+        &mut self,
+        event: &Event,
+        up: &mut W,
+        down: &mut W,
+    ) -> Result<StepAnswer, PairError>
+        requires { IsMovable event.now }
+        ensures wires { BothGoOn W.faults W.honest up.old up.new down.old down.new
+            (IsErrOf result error.WireFault) }
+
+        // Whatever the wires give.
+        ensures turns { IfOk result (λ answer. TurnsOver W.honest W.sent W.given
+            up.old up.new down.old down.new self.old event.now answer self.new) }
+
+        // Over honest wires it is the step of the world.
+        ensures stands { (r : Common) (w : World) → IsHonestly W.honest W.sent W.given r w
+            self.old up.old down.old → IfOk result (λ answer.
+            StepsTo W.sent W.given r w event.now answer self.new up.new down.new) }
+    {
+        let answer = self.act(event, up, down)?;
+        self.put_all(up, down)?;
+        Ok(answer)
+    }
+
+    /// What the dispatch of this label has received; nothing where no dispatch has it. No memory.
+    pub fn received(&self, label: &[u8]) -> Option<Received<'_>>
+        ensures { ShowsLabel self.now.book label.now result }
+    {
+        let made = under(&self.book, label)?;
+        self.book.received(&Ticket { id: made.id })
+    }
+
+    /// The client, with its dispatches. No memory.
+    pub fn book(&self) -> &Book
+        ensures { result.now ≡ self.now.book }
+    {
+        &self.book
+    }
+
+    /// The server. No memory.
+    pub fn server(&self) -> &Server
+        ensures { result.now ≡ self.now.server }
+    {
+        &self.server
+    }
+
+    /// How many bytes were put to each wire, and moved. No memory.
+    pub fn moved(&self) -> Moved
+        ensures { result ≡ self.now.moved }
+    {
+        self.moved
+    }
+
+    // Does what an event asks for, without what the ends have to say going out.
+    fn act<W: Wire>(
+        &mut self,
+        event: &Event,
+        up: &mut W,
+        down: &mut W,
+    ) -> Result<StepAnswer, PairError>
+        requires { IsMovable event.now }
+        ensures wires { BothGoOn W.faults W.honest up.old up.new down.old down.new
+            (IsErrOf result error.WireFault) }
+        ensures acts { IfOk result (λ answer. ActsOver W.honest W.sent W.given
+            up.old up.new down.old down.new self.old event.now answer self.new) }
+    {
+        match event {
+            Event::Up { count, by } => {
+                self.move_up(*count, *by, up)?;
+                Ok(StepAnswer::Done)
+            }
+            Event::Down { count, by } => {
+                self.move_down(*count, *by, down)?;
+                Ok(StepAnswer::Done)
+            }
+            _ => Ok(self.act_quietly(event)?),
+        }
+    }
+
+    // Does what an event asks for by which nothing moves.
+    fn act_quietly(&mut self, event: &Event) -> Result<StepAnswer, OutOfMemory>
+        requires { IsQuiet event.now }
+        ensures { IfOk result (λ answer.
+            Comes (IsDeedAt self.old event.now) self.old answer self.new) }
+    {
+        match event {
+            Event::Ask {
+                label,
+                name,
+                version,
+                text,
+            } => self.ask(label, name, *version, text),
+            Event::Menu { label } => self.ask_menu(label),
+            Event::Best { label, name, text } => self.ask_best(label, name, text),
+            Event::Abort { label } => self.abort(label),
+            Event::Reply { label, text } => self.tell(Telling::Reply, label, text),
+            Event::Begin { label, text } => self.tell(Telling::Begin, label, text),
+            Event::Decline { label, text } => self.tell(Telling::Decline, label, text),
+            Event::Item { label, text } => self.tell(Telling::Item, label, text),
+            Event::Fail { label, text } => self.fail(label, text),
+            Event::End { label } => self.end(label),
+            Event::Show { label } => Ok(self.show(label)),
+            Event::At { now } => self.tick(*now),
+            Event::CloseClient => Ok(self.close_client()),
+            Event::CloseServer => Ok(self.close_server()),
+            Event::EofClient => Ok(self.eof_client()),
+            Event::EofServer => Ok(self.eof_server()),
+            Event::Up { .. } | Event::Down { .. } => unreachable!(),
+        }
+    }
+
+    fn ask(
+        &mut self,
+        label: &Blob,
+        name: &Blob,
+        version: i64,
+        text: &Blob,
+    ) -> Result<StepAnswer, OutOfMemory>
+        ensures { IfOk result (λ answer.
+            Comes (IsDeedAt self.old (ev.Ask label.now name.now version text.now))
+            self.old answer self.new) }
+    {
+        if under(&self.book, label.as_slice()).is_some() {
+            return Ok(StepAnswer::Refused(Refusal::LabelTaken));
+        }
+        self.ask_line(label, name.as_slice(), version, text)
+    }
+
+    // Calls the procedure of this name and version, if the client has it.
+    fn ask_line(
+        &mut self,
+        label: &Blob,
+        name: &[u8],
+        version: i64,
+        text: &Blob,
+    ) -> Result<StepAnswer, OutOfMemory>
+        ensures { IfOk result (λ answer.
+            Comes (AsksLineOf self.old label.now text.now name.now version)
+            self.old answer self.new) }
+    {
+        match line(self.server.schema().entries(), name, version) {
+            Some(entry) if is_called(entry.side) => call_text(
+                &mut self.book,
+                self.alloc,
+                self.limits.max_message,
+                label,
+                &entry.desc,
+                text,
+            ),
+            _ => Ok(StepAnswer::Refused(Refusal::NoSuchRpc)),
+        }
+    }
+
+    fn ask_menu(&mut self, label: &Blob) -> Result<StepAnswer, OutOfMemory>
+        ensures { IfOk result (λ answer.
+            Comes (IsDeedAt self.old (ev.Menu label.now)) self.old answer self.new) }
+    {
+        if under(&self.book, label.as_slice()).is_some() {
+            return Ok(StepAnswer::Refused(Refusal::LabelTaken));
+        }
+        let desc = menu_desc(self.alloc)?;
+        call(&mut self.book, self.alloc, label, &desc, &Value::Unit)
+    }
+
+    fn ask_best(
+        &mut self,
+        label: &Blob,
+        name: &Blob,
+        text: &Blob,
+    ) -> Result<StepAnswer, OutOfMemory>
+        ensures { IfOk result (λ answer.
+            Comes (IsDeedAt self.old (ev.Best label.now name.now text.now))
+            self.old answer self.new) }
+    {
+        if under(&self.book, label.as_slice()).is_some() {
+            return Ok(StepAnswer::Refused(Refusal::LabelTaken));
+        }
+        let Some(menu) = last_menu(self.alloc, &self.book)? else {
+            return Ok(StepAnswer::Refused(Refusal::NoMenu));
+        };
+        let entries = self.server.schema().entries();
+        let own = called_versions(self.alloc, entries, name.as_slice())?;
+        match best(&own, &menu, name.as_slice()) {
+            Some(version) => self.ask_line(label, name.as_slice(), version, text),
+            None => Ok(StepAnswer::Refused(Refusal::NoVersion)),
+        }
+    }
+
+    fn abort(&mut self, label: &Blob) -> Result<StepAnswer, OutOfMemory>
+        ensures { IfOk result (λ answer.
+            Comes (IsDeedAt self.old (ev.Abort label.now)) self.old answer self.new) }
+    {
+        match under(&self.book, label.as_slice()) {
+            Some(made) => {
+                let id = made.id;
+                abort(&mut self.book, id)
+            }
+            None => Ok(StepAnswer::Refused(Refusal::NoSuchLabel)),
+        }
+    }
+
+    // A handler tells the value that a text is.
+    fn tell(
+        &mut self,
+        telling: Telling,
+        label: &Blob,
+        text: &Blob,
+    ) -> Result<StepAnswer, OutOfMemory>
+        ensures { IfOk result (λ answer.
+            Comes (IsDeedAt self.old (told_event telling label.now text.now))
+            self.old answer self.new) }
+    {
+        let Some(made) = under(&self.book, label.as_slice()) else {
+            return Ok(StepAnswer::Refused(Refusal::NoSuchLabel));
+        };
+        if !telling.is_of(made.desc.kind) {
+            return Ok(StepAnswer::Refused(Refusal::WrongKind));
+        }
+        tell_text(
+            &mut self.server,
+            self.alloc,
+            self.limits.max_message,
+            telling,
+            made.id,
+            &made.desc,
+            text,
+        )
+    }
+
+    fn fail(&mut self, label: &Blob, text: &Blob) -> Result<StepAnswer, OutOfMemory>
+        ensures { IfOk result (λ answer.
+            Comes (IsDeedAt self.old (ev.Fail label.now text.now)) self.old answer self.new) }
+    {
+        match under(&self.book, label.as_slice()) {
+            Some(made) if is_tracked(made.desc.kind) => fail(&mut self.server, made.id, text),
+            Some(_) => Ok(StepAnswer::Refused(Refusal::WrongKind)),
+            None => Ok(StepAnswer::Refused(Refusal::NoSuchLabel)),
+        }
+    }
+
+    fn end(&mut self, label: &Blob) -> Result<StepAnswer, OutOfMemory>
+        ensures { IfOk result (λ answer.
+            Comes (IsDeedAt self.old (ev.End label.now)) self.old answer self.new) }
+    {
+        match under(&self.book, label.as_slice()) {
+            Some(made) if is_stream(made.desc.kind) => end(&mut self.server, made.id),
+            Some(_) => Ok(StepAnswer::Refused(Refusal::WrongKind)),
+            None => Ok(StepAnswer::Refused(Refusal::NoSuchLabel)),
+        }
+    }
+
+    fn show(&self, label: &Blob) -> StepAnswer
+        ensures { Comes (IsDeedAt self.now (ev.Show label.now)) self.now result self.now }
+    {
+        match under(&self.book, label.as_slice()) {
+            Some(_) => StepAnswer::Shown,
+            None => StepAnswer::Refused(Refusal::NoSuchLabel),
+        }
+    }
+
+    // A moment, which both ends look at.
+    fn tick(&mut self, now: u64) -> Result<StepAnswer, OutOfMemory>
+        ensures { IfOk result (λ answer.
+            Comes (IsDeedAt self.old (ev.At now)) self.old answer self.new) }
+    {
+        self.moment = self.moment.max(now);
+        self.book.tick(self.moment)?;
+        self.server.tick(self.moment)?;
+        Ok(StepAnswer::Done)
+    }
+
+    fn close_client(&mut self) -> StepAnswer
+        ensures { Comes (IsDeedAt self.old ev.CloseClient) self.old result self.new }
+    {
+        self.book.close();
+        StepAnswer::Done
+    }
+
+    fn close_server(&mut self) -> StepAnswer
+        ensures { Comes (IsDeedAt self.old ev.CloseServer) self.old result self.new }
+    {
+        self.server.close();
+        StepAnswer::Done
+    }
+
+    fn eof_client(&mut self) -> StepAnswer
+        ensures { Comes (IsDeedAt self.old ev.EofClient) self.old result self.new }
+    {
+        self.book.end_of_input();
+        StepAnswer::Done
+    }
+
+    fn eof_server(&mut self) -> StepAnswer
+        ensures { Comes (IsDeedAt self.old ev.EofServer) self.old result self.new }
+    {
+        self.server.end_of_input();
+        StepAnswer::Done
+    }
+
+    // Bytes move to the server.
+    fn move_up<W: Wire>(&mut self, count: Option<u64>, by: u64, up: &mut W) -> Result<(), PairError>
+        requires { (1 ≤ by) × (by ≤ most_piece) }
+        ensures wire { GoesOn W.faults W.honest up.old up.new (IsErrOf result error.WireFault) }
+        ensures moves { OnOk result
+            (MovesUpOver W.honest W.sent W.given self.old count by up.old up.new self.new) }
+    {
+        let flight = self.moved.up_put.saturating_sub(self.moved.up);
+        let count = moved_bytes(count, flight);
+        let came = carry(
+            &mut self.server,
+            up,
+            &mut self.buffer,
+            count,
+            by,
+            self.moment,
+        )?;
+        self.moved.up = add(self.moved.up, came)?;
+        Ok(())
+    }
+
+    // Bytes move to the client.
+    fn move_down<W: Wire>(
+        &mut self,
+        count: Option<u64>,
+        by: u64,
+        down: &mut W,
+    ) -> Result<(), PairError>
+        requires { (1 ≤ by) × (by ≤ most_piece) }
+        ensures wire { GoesOn W.faults W.honest down.old down.new
+            (IsErrOf result error.WireFault) }
+        ensures moves { OnOk result
+            (MovesDownOver W.honest W.sent W.given self.old count by down.old down.new self.new) }
+    {
+        let flight = self.moved.down_put.saturating_sub(self.moved.down);
+        let count = moved_bytes(count, flight);
+        let came = carry(
+            &mut self.book,
+            down,
+            &mut self.buffer,
+            count,
+            by,
+            self.moment,
+        )?;
+        self.moved.down = add(self.moved.down, came)?;
+        Ok(())
+    }
+
+    // Puts all that both ends have to say.
+    fn put_all<W: Wire>(&mut self, up: &mut W, down: &mut W) -> Result<(), PairError>
+        ensures wires { BothGoOn W.faults W.honest up.old up.new down.old down.new
+            (IsErrOf result error.WireFault) }
+        ensures puts { OnOk result
+            (PutsOver W.sent W.given self.old self.new up.old up.new down.old down.new) }
+    {
+        let client = put_out(&mut self.book, up, &mut self.buffer)?;
+        self.moved.up_put = add(self.moved.up_put, client)?;
+        let server = put_out(&mut self.server, down, &mut self.buffer)?;
+        self.moved.down_put = add(self.moved.down_put, server)?;
+        Ok(())
+    }
+}
+
+// How many of the bytes in flight a movement of so many, or of all, moves.
+fn moved_bytes(count: Option<u64>, flight: u64) -> u64
+    ensures { result ≡ moved_bytes count flight }
+{
+    match count {
+        Some(count) => count.min(flight),
+        None => flight,
+    }
+}
+
+// A count of bytes that grows. No memory holds as many as a count has no room for.
+fn add(count: u64, more: u64) -> Result<u64, OutOfMemory>
+    ensures { IfOk result (λ sum. sum ≡ count + more) }
+{
+    count.checked_add(more).ok_or(OutOfMemory)
+}
