@@ -15,3 +15,4 @@ pub mod Pairs
 pub mod Asked
 pub mod Tellings
 pub mod Wires
+pub mod Played
