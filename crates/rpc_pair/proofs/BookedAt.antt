@@ -1,10 +1,10 @@
 -- The dispatch at a place of a book.
-use Rattle.std.proofs.Common.{◌≡◌, refl, sym, ap, ◌∙◌, subst, ℕ, zero, suc, ◌+◌, ◌<◌, ℤ, Bool, true, false, List, [], ◌∷◌, length, map, get_or, arith, if◌then◌else◌}
-use Rattle.std.specs.Prelude.{Option, Some, None}
+use Rattle.std.proofs.Common.{◌≡◌, refl, sym, ap, ◌∙◌, subst, ℕ, zero, suc, ◌<◌, ℤ, Bool, true, false, List, [], ◌∷◌, length, map, get_or, arith, if◌then◌else◌}
+use Rattle.std.specs.Prelude.{Some}
 use Rattle.std.specs.Ordering.{int_eq}
 use Rattle.std.proofs.lemmas.Bool.Decides.{Decides-int_eq}
 use Rattle.readers.specs.Reader.{Each}
-use Rattle.rpc_book.specs.Books.{Booked, HaveDistinctIds, find_booked, has_booked_id}
+use Rattle.rpc_book.specs.Books.{Booked, HaveDistinctIds, find_booked}
 use Rattle.rpc_book.specs.declared.made.Made.{Made}
 
 pub element : (ds : List Booked) (k : ℕ) (x : Made) → k < length ds → x ≡ get_or (map (λ d. d.made) ds) k x → (d : Booked) × ((e : Booked) → get_or ds k e ≡ d) × (d.made ≡ x)

@@ -1,34 +1,25 @@
 -- What an event comes to, by what was found and read.
-use Rattle.std.proofs.Common.{◌≡◌, refl, sym, ap, ◌∙◌, subst, ℕ, ℤ, Bool, true, false, List, inl, inr, ◌⊎◌}
+use Rattle.std.proofs.Common.{◌≡◌, refl, sym, ap, subst, ℕ, ℤ, true, false, List, inl, inr}
 use Rattle.std.specs.Prelude.{Option, Some, None, Result, Ok, Err, IfOk, MatchOption}
 use Rattle.std.specs.Option.{is_some}
-use Rattle.bp_value.specs.Form.{Form, form_of}
-use Rattle.bp_value.specs.declared.value.Value.{Value}
+use Rattle.bp_value.specs.Form.{form_of}
 use Rattle.bp_value.specs.declared.value.Value.TheVariants as val
 use Rattle.rpc_schema.specs.Choice.{menu_description}
 use Rattle.rpc_schema.specs.declared.desc.Entry.{Entry}
-use Rattle.rpc_schema.specs.declared.desc.Kind.{Kind}
 use Rattle.rpc_schema.specs.declared.desc.RpcDesc.{RpcDesc}
-use Rattle.rpc_schedule.specs.declared.event.Event.{Event}
 use Rattle.rpc_schedule.specs.declared.event.Event.TheVariants as ev
-use Rattle.rpc_talk.specs.Acts.{Act}
-use Rattle.rpc_meeting.specs.Deeds.{Deed, Refuse, Call, Tell, Reveal, AsText, AsksEntry, AsksLine, AsksVersion, UnlessTaken, TellsKind, find_label, menu_deed, show_deed}
-use Rattle.rpc_meeting.specs.Menus.{best_version, called_versions, is_called, listings_told}
+use Rattle.rpc_meeting.specs.Deeds.{Deed, Refuse, Call, Reveal, AsText, AsksEntry, AsksLine, UnlessTaken, find_label, menu_deed, show_deed}
+use Rattle.rpc_meeting.specs.Menus.{is_called}
 use Rattle.rpc_meeting.specs.Talks.{Dispatch, line_named}
-use Rattle.rpc_meeting.specs.declared.answer.Refusal.TheVariants.{BadValue, LabelTaken, NoMenu, NoSuchLabel, NoSuchRpc, NoVersion, WrongKind}
+use Rattle.rpc_meeting.specs.declared.answer.Refusal.TheVariants.{BadValue, LabelTaken, NoSuchLabel, NoSuchRpc}
 use Rattle.rpc_meeting.specs.declared.answer.StepAnswer.{StepAnswer}
 use Rattle.rpc_meeting.specs.declared.answer.StepAnswer.TheVariants.{Refused, Shown}
 use Rattle.rpc_book.specs.Books.{BookState}
 use Rattle.rpc_book.specs.Calls.{IsBooked}
-use Rattle.rpc_server.specs.Servers.{ServerState}
-use Rattle.rpc_pair.specs.Asked.{BookAsks, ServerTells}
+use Rattle.rpc_pair.specs.Asked.{BookAsks}
 use Rattle.rpc_pair.specs.Callers.{dispatched_as}
 use Rattle.rpc_pair.specs.Made.{dispatches_of}
-use Rattle.rpc_pair.specs.Pairs.{PairState, Answers, AsksLineOf, Comes, Does, IsDeedAt, with_book, with_server}
-use Rattle.rpc_pair.specs.Standing.{booked_menu}
-use Rattle.rpc_pair.specs.Tellings.{is_told_of, told_act, told_event, told_form}
-use Rattle.rpc_pair.specs.declared.telling.Telling.{Telling}
-use Rattle.rpc_pair.specs.declared.telling.Telling.TheVariants as telling
+use Rattle.rpc_pair.specs.Pairs.{PairState, Answers, AsksLineOf, Comes, IsDeedAt, with_book}
 
 -- where a call went well, what it says is so turned
 pub ok_comes : {A E : Type 0} {P Q : A → Type 0} (result : Result A E) → ((a : A) → P a → Q a) → IfOk result P → IfOk result Q

@@ -1,11 +1,11 @@
 -- What an act of a value and the best version of a name come to.
-use Rattle.std.proofs.Common.{◌≡◌, refl, sym, ap, ◌∙◌, subst, ℕ, ℤ, Bool, true, false, List, inl, inr, ◌⊎◌}
+use Rattle.std.proofs.Common.{◌≡◌, refl, sym, ap, ◌∙◌, subst, ℕ, ℤ, true, false, List, inl, inr}
 use Rattle.std.specs.Prelude.{Option, Some, None}
 use Rattle.bp_value.specs.declared.value.Value.{Value}
 use Rattle.rpc_schema.specs.Choice.{IsChoice, menu_value}
 use Rattle.rpc_schema.specs.declared.desc.Listing.{Listing}
 use Rattle.rpc_schedule.specs.declared.event.Event.TheVariants as ev
-use Rattle.rpc_meeting.specs.Deeds.{Deed, Refuse, Tell, AsksBest, AsksVersion, TellsKind, TellsValue, UnlessTaken, find_label}
+use Rattle.rpc_meeting.specs.Deeds.{Deed, Refuse, Tell, AsksBest, AsksVersion, TellsKind, TellsValue, find_label}
 use Rattle.rpc_meeting.specs.Menus.{best_version, called_versions, listings_told}
 use Rattle.rpc_meeting.specs.Talks.{Dispatch}
 use Rattle.rpc_meeting.specs.declared.answer.Refusal.TheVariants.{BadValue, NoMenu, NoSuchLabel, NoVersion, WrongKind}

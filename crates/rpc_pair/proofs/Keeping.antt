@@ -1,10 +1,8 @@
 -- What a pair keeps over the calls of its ends.
-use Rattle.std.proofs.Common.{◌≡◌, refl, sym, ap, ◌∙◌, subst, ℕ, ℤ, Bool, true, false, List, [], ◌∷◌, ◌++◌, inl, inr, ◌⊎◌, if◌then◌else◌}
+use Rattle.std.proofs.Common.{◌≡◌, refl, sym, ap, subst, ℕ, ℤ, Bool, true, false, List, [], ◌∷◌, ◌++◌, if◌then◌else◌}
 use Rattle.std.specs.Prelude.{Option, Some, None, Result, Ok, Err}
-use Rattle.std.specs.Str.{bytes_eq}
 use Rattle.readers.specs.Reader.{Each}
 use Rattle.bp_value.specs.declared.value.Value.{Value}
-use Rattle.bp_value.specs.Fits.{InRange}
 use Rattle.rpc_msg.specs.declared.shared.FeedError.{FeedError}
 use Rattle.rpc_msg.specs.declared.shared.FeedError.TheVariants as feed
 use Rattle.rpc_msg.specs.declared.shared.Ticket.{Ticket}
@@ -19,14 +17,13 @@ use Rattle.rpc_talk.specs.Acts.{Act}
 use Rattle.rpc_client.specs.declared.error.AbortError.{AbortError}
 use Rattle.rpc_client.specs.declared.error.DispatchError.{DispatchError}
 use Rattle.rpc_server.specs.Acting.{IsActed, ActsBy, IsActRefused, RespondsTo, act_refusal}
-use Rattle.rpc_server.specs.Servers.{ServerState, Does, DoesAsTaken, Hears, IsServerFed, with_end}
+use Rattle.rpc_server.specs.Servers.{ServerState, Does, DoesAsTaken, Hears, IsServerFed}
 use Rattle.rpc_server.specs.declared.arrival.Arrival.{Arrival}
 use Rattle.rpc_server.specs.declared.arrival.ServerFed.{ServerFed}
 use Rattle.rpc_server.specs.declared.error.ActError.{ActError}
 use Rattle.rpc_server.specs.declared.error.ActError.TheVariants as refused
 use Rattle.rpc_book.specs.Books.{BookState, Booked, changed, find_booked, has_booked_id}
 use Rattle.rpc_book.specs.Calls.{Aborts, IsAbortedAt, IsBooked, cut_to}
-use Rattle.rpc_book.specs.Feeds.{IsBookFed}
 use Rattle.rpc_pair.specs.Kept.{BookKeeps, IsKept, IsOwn}
 
 -- ---- a server keeps its rules

@@ -1,5 +1,5 @@
 -- Steps one after the other, and one more.
-use Rattle.std.proofs.Common.{◌≡◌, refl, sym, subst, List, [], ◌∷◌, ◌++◌}
+use Rattle.std.proofs.Common.{refl, sym, subst, List, [], ◌∷◌, ◌++◌}
 use Rattle.rpc_pair.specs.Runs.{Leads}
 
 pub leads_more : {S A : Type 0} (Step : S → A → S → Type 0) (from mid to : S) (done : List A) (a : A) → Leads Step from done mid → Step mid a to → Leads Step from (done ++ a ∷ []) to

@@ -1,5 +1,5 @@
 -- A walk back over dispatches, to the last reply of the menu.
-use Rattle.std.proofs.Common.{◌≡◌, refl, sym, ap, ◌∙◌, subst, ℕ, ◌+◌, ◌-◌, ◌≤◌, ◌<◌, Bool, true, false, List, [], ◌∷◌, ◌++◌, length, take, map, arith, if◌then◌else◌}
+use Rattle.std.proofs.Common.{◌≡◌, refl, sym, ap, ◌∙◌, ℕ, ◌+◌, ◌<◌, Bool, true, false, [], ◌∷◌, ◌++◌, length, take, if◌then◌else◌}
 use Rattle.std.specs.Prelude.{Option, Some, None, fold, get_or}
 use Rattle.std.proofs.lemmas.List.{take_more}
 use Rattle.std.proofs.lemmas.List.Sums.{fold-append}
@@ -9,7 +9,6 @@ use Rattle.rpc_meeting.specs.Menus.{reply_or}
 use Rattle.rpc_msg.specs.declared.shared.Ending.{Ending}
 use Rattle.rpc_msg.specs.declared.shared.Ending.TheVariants as ending
 use Rattle.rpc_book.specs.Books.{BookState, Booked, find_booked, held_in}
-use Rattle.rpc_book.specs.declared.made.Made.{Made}
 use Rattle.rpc_pair.specs.Kept.{IsKept}
 use Rattle.rpc_pair.specs.Menus.{AnswersMenu, reply_of}
 use Rattle.rpc_pair.specs.Standing.{menu_held_or}

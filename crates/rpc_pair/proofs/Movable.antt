@@ -1,5 +1,4 @@
 -- An event that was read can be stepped.
-use Rattle.std.proofs.Common.{ℕ, ◌≤◌}
 use Rattle.rpc_schedule.specs.EventLines.{IsGoodEvent}
 use Rattle.rpc_schedule.specs.declared.event.Event.{Event}
 use Rattle.rpc_schedule.specs.declared.event.Event.TheVariants as ev

@@ -4,7 +4,7 @@ use Rattle.std.specs.Prelude.{Option}
 use Rattle.std.proofs.lemmas.List.{length-drop, length-take, take_all, take_at}
 use Rattle.rpc_frame.proofs.HeadSteps.{take_front}
 use Rattle.bp_base.specs.Told.{Gains}
-use Rattle.bp_base.proofs.Telling.{Gains-nil, Gains-trans}
+use Rattle.bp_base.proofs.Telling.{Gains-nil}
 
 -- what tells the same gained nothing
 pub gains_none : {W : Type 0} (told : W → Option (List ℕ)) (w new : W) → told new ≡ told w → Gains told w new []

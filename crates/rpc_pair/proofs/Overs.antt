@@ -1,5 +1,5 @@
 -- A movement of one end over a wire, and what an event does over two.
-use Rattle.std.proofs.Common.{◌≡◌, refl, sym, ap, ◌∙◌, subst, ℕ, ◌+◌, Bool, true, List, [], length, arith}
+use Rattle.std.proofs.Common.{◌≡◌, refl, sym, ap, ◌∙◌, subst, ℕ, ◌+◌, Bool, List, [], arith}
 use Rattle.std.specs.Prelude.{Option, Result, Ok, Err, OnOk}
 use Rattle.bp_base.specs.Faults.{BothGoOn}
 use Rattle.bp_base.specs.Moves.{in_flight}
@@ -15,7 +15,7 @@ use Rattle.rpc_server.specs.Servers.{ServerState}
 use Rattle.rpc_book.specs.Books.{BookState}
 use Rattle.rpc_pair.specs.Feeds.{BookCloses, BookTakes, ServerCloses, ServerTakes}
 use Rattle.rpc_pair.specs.Moving.{IsCarried, IsMoved, IsSpent, TakesPiece}
-use Rattle.rpc_pair.specs.Pairs.{PairState, BookMoves, Came, Comes, Does, DoesOver, IsDeedAt, Quietly, ServerMoves, down_flight, is_book_closed, is_server_closed, moved_down, moved_up, nothing, up_flight}
+use Rattle.rpc_pair.specs.Pairs.{PairState, BookMoves, Came, Comes, Does, DoesOver, IsDeedAt, ServerMoves, down_flight, is_book_closed, is_server_closed, nothing, up_flight}
 use Rattle.rpc_pair.specs.Wires.{ActsOver, MovesDownOver, MovesUpOver, PutsOver, Tells, TurnsOver}
 use Rattle.rpc_pair.proofs.Outgoing.{gains_none}
 

@@ -1,5 +1,5 @@
 -- Procedures of a schema, and that of the menu, are a pair's own.
-use Rattle.std.proofs.Common.{◌≡◌, refl, sym, subst, ℕ, ℤ, pos, ◌<◌, ◌^◌, Bool, true, false, List, ◌&&◌, arith}
+use Rattle.std.proofs.Common.{◌≡◌, refl, sym, subst, ℕ, ℤ, pos, Bool, true, false, List, ◌&&◌, arith}
 use Rattle.std.specs.Prelude.{Some}
 use Rattle.std.specs.Str.{bytes_eq}
 use Rattle.std.specs.Ordering.{int_eq}
@@ -7,12 +7,11 @@ use Rattle.std.proofs.lemmas.Slice.Eq.{bytes_eq-Decides}
 use Rattle.bp_value.specs.Fits.{InRange}
 use Rattle.bp_value.proofs.Fitted.{range_is}
 use Rattle.rpc_schema.specs.Choice.{menu_description}
-use Rattle.rpc_schema.specs.Entries.{AreEntries, IsDesc, IsEntry, IsVersion, menu_name}
+use Rattle.rpc_schema.specs.Entries.{AreEntries, IsDesc, IsVersion, menu_name}
 use Rattle.rpc_schema.specs.declared.desc.Entry.{Entry}
 use Rattle.rpc_schema.specs.declared.desc.RpcDesc.{RpcDesc}
 use Rattle.rpc_schema.proofs.GoodLines.{good_unit}
 use Rattle.rpc_schema.proofs.MenuValues.{menu_good}
-use Rattle.rpc_talk.specs.Acts.{is_menu}
 use Rattle.rpc_meeting.specs.Talks.{line_named}
 use Rattle.rpc_meeting.proofs.ActsRead.{line_entry}
 use Rattle.rpc_pair.specs.Kept.{IsOwn}

@@ -1,5 +1,5 @@
 -- What every pair keeps, over a change of an end and of its buffer.
-use Rattle.std.proofs.Common.{◌≡◌, sym, ap, ◌∙◌, ℕ, ◌+◌, ◌++◌, List, length, take, drop, arith}
+use Rattle.std.proofs.Common.{◌≡◌, ap, ◌∙◌, ℕ, ◌++◌, List, length, take, drop, arith}
 use Rattle.std.proofs.lemmas.List.{length-append, length-drop, length-take}
 use Rattle.rpc_msg.specs.declared.shared.Limits.{Limits}
 use Rattle.rpc_server.specs.Rules.{Rules}

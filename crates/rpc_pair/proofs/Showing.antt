@@ -1,6 +1,6 @@
 -- What is shown of the dispatch of a label.
-use Rattle.std.proofs.Common.{◌≡◌, refl, sym, ap, ◌∙◌, subst, ℕ, ℤ, Bool, true, false, List, [], ◌∷◌, map, drop, if◌then◌else◌}
-use Rattle.std.specs.Prelude.{Option, Some, None, MatchOption, option_map, option_copied}
+use Rattle.std.proofs.Common.{◌≡◌, refl, sym, ap, ◌∙◌, subst, ℕ, Bool, true, false, List, [], ◌∷◌, map, drop, if◌then◌else◌}
+use Rattle.std.specs.Prelude.{Option, Some, None, option_map}
 use Rattle.std.specs.List.{find}
 use Rattle.std.specs.Str.{bytes_eq}
 use Rattle.std.specs.Ordering.{int_eq}
@@ -10,7 +10,7 @@ use Rattle.rpc_msg.specs.declared.shared.Received.{Received}
 use Rattle.rpc_meeting.specs.Deeds.{find_label}
 use Rattle.rpc_meeting.specs.Talks.{Dispatch}
 use Rattle.rpc_meeting.proofs.Look.{no_some, some_is}
-use Rattle.rpc_book.specs.Books.{BookState, Booked, HaveDistinctIds, find_booked, has_booked_id, held_in}
+use Rattle.rpc_book.specs.Books.{BookState, Booked, HaveDistinctIds, find_booked, held_in}
 use Rattle.rpc_book.specs.Calls.{IsReceived, ShowsBooked}
 use Rattle.rpc_book.specs.declared.made.Made.{Made}
 use Rattle.rpc_pair.specs.Kept.{IsKept}

@@ -7,7 +7,6 @@ use Rattle.rpc_msg.specs.declared.shared.Limits.{Limits}
 use Rattle.rpc_schema.specs.Choice.{menu_description, menu_value}
 use Rattle.rpc_schema.specs.declared.desc.Menu.{Menu}
 use Rattle.rpc_schema.specs.declared.desc.RpcDesc.{RpcDesc}
-use Rattle.bp_value.specs.declared.value.Value.{Value}
 use Rattle.rpc_talk.specs.Acts.{is_menu}
 use Rattle.rpc_client.specs.Rows.{IsCallable}
 use Rattle.rpc_server.specs.Servers.{ServerState}

@@ -1,5 +1,5 @@
 -- The replies that tell a menu.
-use Rattle.std.specs.Prelude.{◌≡◌, List, Option, Some, None, if◌then◌else◌}
+use Rattle.std.specs.Prelude.{◌≡◌, Option, Some, None, if◌then◌else◌}
 use Rattle.bp_value.specs.declared.value.Value.{Value}
 use Rattle.rpc_talk.specs.Acts.{is_menu}
 use Rattle.rpc_meeting.specs.Menus.{reply_or}

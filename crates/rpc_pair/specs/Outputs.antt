@@ -1,5 +1,5 @@
 -- What is to go out of an end, taken in one piece or in two.
-use Rattle.std.specs.Prelude.{◌≡◌, ℕ, ◌+◌, List, drop}
+use Rattle.std.specs.Prelude.{◌≡◌, ℕ, ◌+◌, List}
 use Rattle.std.proofs.Common.{ap}
 use Rattle.std.proofs.lemmas.List.{drop-drop}
 use Rattle.rpc_end.specs.Ends.{EndState, taken_out}

@@ -1,5 +1,5 @@
 -- Steps one after the other.
-use Rattle.std.specs.Prelude.{◌≡◌, List, [], ◌∷◌, ◌++◌}
+use Rattle.std.specs.Prelude.{◌≡◌, List, [], ◌∷◌}
 
 -- the steps of a list lead from one state to another
 abbrev pub Leads : {S A : Type 0} → (S → A → S → Type 0) → S → List A → S → Type 0

@@ -1,4 +1,4 @@
-use Rattle.std.proofs.Common.{rules, refl, sym, ap, ◌≡◌, ◌∙◌, subst, ℕ, List, [], ◌∷◌, ◌+◌, ◌-◌, ◌++◌, ◌≤◌, ◌<◌, min, length, take, drop, true, false, arith, inl, inr}
+use Rattle.std.proofs.Common.{rules, refl, sym, ap, ◌≡◌, ◌∙◌, subst, ℕ, List, [], ◌∷◌, ◌-◌, ◌++◌, ◌<◌, min, length, take, true, false, arith, inl, inr}
 use Rattle.std.specs.List.{concat}
 use Rattle.std.proofs.lemmas.List.{append-nil, length-append, length-take}
 use Rattle.bp_base.specs.Moves.{in_flight}

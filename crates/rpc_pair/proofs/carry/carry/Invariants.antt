@@ -1,7 +1,7 @@
-use Rattle.std.proofs.Common.{◌≡◌, ◌-◌, ◌≤◌, ◌+◌, ◌↔◌, ℕ, List, length}
+use Rattle.std.proofs.Common.{◌≡◌, ◌≤◌, ◌+◌, ◌↔◌, ℕ, List, length}
 use Rattle.std.specs.List.{concat}
 use Rattle.bp_base.specs.Told.{Gains}
-use Rattle.rpc_pair.specs.Moving.{Moving, IsMove, TakesPiece}
+use Rattle.rpc_pair.specs.Moving.{IsMove, TakesPiece}
 use Rattle.rpc_pair.specs.Runs.{Leads}
 use Rattle.rpc_pair.proofs.carry.carry.Given as goal
 

@@ -1,5 +1,5 @@
 use Rattle.std.proofs.Common.{◌≡◌, ℕ, List, length}
-use Rattle.rpc_pair.specs.Moving.{Taking, IsFeed}
+use Rattle.rpc_pair.specs.Moving.{IsFeed}
 use Rattle.rpc_pair.specs.Runs.{Leads}
 use Rattle.rpc_pair.proofs.carry.take_piece.Given as goal
 

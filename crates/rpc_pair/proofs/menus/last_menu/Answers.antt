@@ -1,14 +1,11 @@
-use Rattle.std.proofs.Common.{rules, ◌≡◌, sym, ap, ◌∙◌, subst, ℕ, ◌+◌, ◌-◌, ◌<◌, ◌≤◌, List, length, map, take, get_or, arith}
-use Rattle.std.specs.Prelude.{Option, Some, None, fold, option_copied}
+use Rattle.std.proofs.Common.{rules, ◌≡◌, sym, ap, ◌∙◌, subst, ◌+◌, ◌-◌, ◌<◌, List, length, map, take, get_or, arith}
+use Rattle.std.specs.Prelude.{Some, None, fold}
 use Rattle.std.proofs.lemmas.List.{length-map}
-use Rattle.bp_value.specs.Fits.{Fits}
-use Rattle.bp_value.specs.Form.{form_of}
-use Rattle.rpc_schema.specs.Choice.{menu_shape}
 use Rattle.rpc_book.specs.Books.{Booked}
 use Rattle.rpc_book.specs.declared.made.Made.{Made}
 use Rattle.rpc_pair.specs.Kept.{IsKept}
 use Rattle.rpc_pair.specs.Menus.{AnswersMenu}
-use Rattle.rpc_pair.specs.Standing.{booked_menu, menu_held_or}
+use Rattle.rpc_pair.specs.Standing.{menu_held_or}
 use Rattle.rpc_pair.proofs.BookedAt.{each_at, element, found_at}
 use Rattle.rpc_pair.proofs.MenuFits.{menu_fits}
 use Rattle.rpc_pair.proofs.MenuLoops.{fold_more, held_none, held_some}

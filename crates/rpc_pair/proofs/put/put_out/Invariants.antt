@@ -1,4 +1,4 @@
-use Rattle.std.proofs.Common.{◌≡◌, ◌-◌, ◌≤◌, ◌+◌, ◌↔◌, ℕ, List, length, take, drop}
+use Rattle.std.proofs.Common.{◌≡◌, ◌≤◌, ◌↔◌, length, take}
 use Rattle.bp_base.specs.Told.{Gains}
 use Rattle.rpc_pair.proofs.put.put_out.Given as goal
 

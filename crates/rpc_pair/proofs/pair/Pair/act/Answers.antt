@@ -1,4 +1,4 @@
-use Rattle.std.proofs.Common.{rules, ◌≡◌, sym, subst}
+use Rattle.std.proofs.Common.{sym, subst}
 use Rattle.rpc_schedule.specs.declared.event.Event.{Event}
 use Rattle.rpc_meeting.specs.declared.answer.StepAnswer.TheVariants.{Done}
 use Rattle.rpc_pair.specs.Wires.{ActsOver}

@@ -1,12 +1,11 @@
-use Rattle.std.proofs.Common.{rules, ◌≡◌, sym, ap, ◌∙◌, subst, true, false}
-use Rattle.std.specs.Prelude.{Option, Some, None, Result, Ok, Err, IfOk, MatchOption}
+use Rattle.std.proofs.Common.{rules, ◌≡◌, subst}
+use Rattle.std.specs.Prelude.{Some, None, MatchOption}
 use Rattle.rpc_meeting.specs.Deeds.{find_label}
-use Rattle.rpc_meeting.specs.Talks.{Dispatch}
 use Rattle.rpc_meeting.specs.declared.answer.Refusal.TheVariants as why
 use Rattle.rpc_meeting.specs.declared.answer.StepAnswer.TheVariants.{Refused}
 use Rattle.rpc_schedule.specs.declared.event.Event.TheVariants as ev
 use Rattle.rpc_pair.specs.Made.{dispatches_of, made_dispatch}
-use Rattle.rpc_pair.specs.Pairs.{PairState, AsksLineOf, Comes, IsDeedAt}
+use Rattle.rpc_pair.specs.Pairs.{PairState, Comes, IsDeedAt}
 use Rattle.rpc_pair.proofs.Coming.{ask_taken, seen_some}
 use Rattle.rpc_pair.proofs.pair.Pair.ask.Goals as goal
 

@@ -1,5 +1,5 @@
-use Rattle.std.proofs.Common.{rules, ◌≡◌, sym, ap, ◌∙◌, subst, true, false}
-use Rattle.std.specs.Prelude.{Option, Some, None, Result, Ok, Err, IfOk, MatchOption}
+use Rattle.std.proofs.Common.{rules, ◌≡◌, subst}
+use Rattle.std.specs.Prelude.{Some, None, IfOk, MatchOption}
 use Rattle.rpc_meeting.specs.Deeds.{find_label}
 use Rattle.rpc_meeting.specs.Menus.{called_versions}
 use Rattle.rpc_meeting.specs.declared.answer.Refusal.TheVariants as why
@@ -7,7 +7,7 @@ use Rattle.rpc_meeting.specs.declared.answer.StepAnswer.TheVariants.{Refused}
 use Rattle.rpc_schedule.specs.declared.event.Event.TheVariants as ev
 use Rattle.rpc_schema.specs.Choice.{IsChoice, menu_value}
 use Rattle.rpc_pair.specs.Made.{dispatches_of, made_dispatch}
-use Rattle.rpc_pair.specs.Pairs.{PairState, AsksLineOf, Comes, IsDeedAt}
+use Rattle.rpc_pair.specs.Pairs.{PairState, Comes, IsDeedAt}
 use Rattle.rpc_pair.specs.Standing.{booked_menu}
 use Rattle.rpc_pair.proofs.Coming.{best_taken, ok_comes, seen_none, seen_some}
 use Rattle.rpc_pair.proofs.ComingActs.{best_comes, best_menu, best_version_none}

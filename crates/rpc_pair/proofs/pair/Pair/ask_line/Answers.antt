@@ -1,14 +1,12 @@
-use Rattle.std.proofs.Common.{rules, ◌≡◌, sym, ap, ◌∙◌, subst, true, false}
-use Rattle.std.specs.Prelude.{Option, Some, None, Result, Ok, Err, IfOk}
+use Rattle.std.proofs.Common.{rules, ◌≡◌, sym, subst, true, false}
+use Rattle.std.specs.Prelude.{Some, None, IfOk}
 use Rattle.rpc_meeting.specs.declared.answer.Refusal.TheVariants as why
-use Rattle.rpc_meeting.specs.declared.answer.StepAnswer.{StepAnswer}
-use Rattle.rpc_meeting.specs.declared.answer.StepAnswer.TheVariants.{Refused, Shown}
-use Rattle.rpc_pair.specs.Pairs.{PairState, AsksLineOf, Comes, IsDeedAt, with_book, with_server}
+use Rattle.rpc_meeting.specs.declared.answer.StepAnswer.TheVariants.{Refused}
+use Rattle.rpc_pair.specs.Pairs.{PairState, AsksLineOf, Comes, with_book}
 use Rattle.rpc_schema.specs.Entries.{AreEntries}
 use Rattle.rpc_meeting.specs.Menus.{is_called}
 use Rattle.rpc_meeting.specs.Talks.{line_named}
 use Rattle.rpc_msg.specs.declared.shared.Limits.{Limits}
-use Rattle.rpc_book.specs.Books.{BookState}
 use Rattle.rpc_pair.specs.Asked.{BookAsks}
 use Rattle.rpc_pair.proofs.Coming.{line_comes, none_comes, ok_comes, other_comes}
 use Rattle.rpc_pair.proofs.Owning.{line_own}

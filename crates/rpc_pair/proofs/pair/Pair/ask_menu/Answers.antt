@@ -1,6 +1,4 @@
-use Rattle.std.proofs.Common.{rules, ◌≡◌, sym, subst, true, false}
-use Rattle.std.specs.Prelude.{Option, Some, None}
-use Rattle.rpc_pair.specs.Pairs.{PairState, AsksLineOf, Comes, IsDeedAt}
+use Rattle.std.proofs.Common.{sym, subst}
 use Rattle.rpc_pair.specs.Kept.{IsOwn}
 use Rattle.rpc_pair.proofs.Owning.{menu_own}
 use Rattle.rpc_pair.proofs.pair.Pair.ask_menu.Goals as goal

@@ -1,6 +1,6 @@
-use Rattle.std.proofs.Common.{rules, refl, ◌≡◌, sym, ap, ◌∙◌, subst, ℕ, List, ◌++◌, length, take, drop}
+use Rattle.std.proofs.Common.{rules, ◌≡◌, ap, ◌∙◌, subst}
 use Rattle.rpc_meeting.specs.Steps.{moved_bytes}
-use Rattle.rpc_pair.specs.Kept.{IsPair, keeps_same, most_piece}
+use Rattle.rpc_pair.specs.Kept.{keeps_same, most_piece}
 use Rattle.rpc_pair.specs.Pairs.{PairState, up_flight}
 use Rattle.rpc_pair.specs.Wires.{MovesUpOver}
 use Rattle.rpc_pair.proofs.Overs.{up_over}

@@ -1,5 +1,5 @@
-use Rattle.std.proofs.Common.{rules, refl, ◌≡◌, sym, ap, ◌∙◌, subst, ℕ, List, ◌++◌, length, take, drop}
-use Rattle.rpc_pair.specs.Kept.{IsPair, keeps_same, most_piece}
+use Rattle.std.proofs.Common.{rules, refl, ◌≡◌, sym, ◌∙◌, ◌++◌, length, take, drop}
+use Rattle.rpc_pair.specs.Kept.{most_piece}
 use Rattle.rpc_pair.proofs.Pairing.{still_pair, still_room}
 use Rattle.rpc_pair.proofs.pair.Pair.put_all.Goals as goal
 

@@ -1,8 +1,6 @@
 use Rattle.std.proofs.Common.{rules, ◌≡◌, sym, subst}
 use Rattle.std.specs.Prelude.{Some, None}
-use Rattle.rpc_msg.specs.declared.shared.Received.{Received}
 use Rattle.rpc_meeting.specs.Deeds.{find_label}
-use Rattle.rpc_book.specs.Books.{BookState}
 use Rattle.rpc_book.specs.Calls.{IsReceived}
 use Rattle.rpc_pair.specs.Made.{dispatches_of, made_dispatch}
 use Rattle.rpc_pair.specs.Pairs.{PairState, ShowsLabel}

@@ -1,10 +1,10 @@
-use Rattle.std.proofs.Common.{rules, ◌≡◌, sym, ap, ◌∙◌, subst, true, false}
-use Rattle.std.specs.Prelude.{Option, Some, None, Result, Ok, Err, IfOk}
+use Rattle.std.proofs.Common.{rules, ◌≡◌, sym, subst, true, false}
+use Rattle.std.specs.Prelude.{Some, None, IfOk}
 use Rattle.rpc_meeting.specs.Deeds.{find_label}
 use Rattle.rpc_meeting.specs.declared.answer.Refusal.TheVariants as why
 use Rattle.rpc_meeting.specs.declared.answer.StepAnswer.TheVariants.{Refused}
 use Rattle.rpc_pair.specs.Made.{dispatches_of, made_dispatch}
-use Rattle.rpc_pair.specs.Pairs.{PairState, AsksLineOf, Comes, IsDeedAt, with_book, with_server}
+use Rattle.rpc_pair.specs.Pairs.{PairState, Comes, IsDeedAt, with_server}
 use Rattle.rpc_msg.specs.declared.shared.Limits.{Limits}
 use Rattle.rpc_pair.specs.Asked.{ServerTells}
 use Rattle.rpc_pair.specs.Tellings.{is_told_of, told_act, told_event, told_form}
