@@ -16,7 +16,7 @@ use Rattle.rpc_pair.specs.Asked.{ServerTells}
 use Rattle.rpc_pair.specs.Made.{dispatches_of}
 use Rattle.rpc_pair.specs.Pairs.{PairState, AsksLineOf, Comes, IsDeedAt, with_server}
 use Rattle.rpc_pair.specs.Standing.{booked_menu}
-use Rattle.rpc_pair.specs.Tellings.{is_told_of, told_act, told_event, told_form}
+use Rattle.rpc_pair.specs.Tellings.{is_told_of, act_told, told_event, told_form}
 use Rattle.rpc_pair.specs.declared.telling.Telling.{Telling}
 use Rattle.rpc_pair.specs.declared.telling.Telling.TheVariants as telling
 use Rattle.rpc_pair.proofs.Choices.{choice_best, menu_told}
@@ -31,14 +31,14 @@ module _ (p : PairState) where
 
   -- ---- acts
 
-  told_as : (t : Telling) (label text : List ℕ) (deed : Deed) → TellsValue m (is_told_of t) (told_form t) (told_act t) text (under label) deed → IsDeedAt p (told_event t label text) deed
+  told_as : (t : Telling) (label text : List ℕ) (deed : Deed) → TellsValue m (is_told_of t) (told_form t) (act_told t) text (under label) deed → IsDeedAt p (told_event t label text) deed
   told_as telling.Reply label text deed tells = tells
   told_as telling.Begin label text deed tells = tells
   told_as telling.Decline label text deed tells = tells
   told_as telling.Item label text deed tells = tells
 
   abbrev OfOne : Telling → List ℕ → Option Dispatch → Deed → Type 0
-  OfOne t text o deed = TellsValue m (is_told_of t) (told_form t) (told_act t) text o deed
+  OfOne t text o deed = TellsValue m (is_told_of t) (told_form t) (act_told t) text o deed
 
   pub tell_none : (t : Telling) (label text : List ℕ) → under label ≡ None → Comes (IsDeedAt p (told_event t label text)) p (Refused NoSuchLabel) p
   tell_none t label text here =
@@ -49,23 +49,23 @@ module _ (p : PairState) where
   tell_wrong t label text d here kind = (
     Refuse WrongKind,
     told_as t label text (Refuse WrongKind) (subst (λ o. OfOne t text o (Refuse WrongKind)) (sym here)
-        (subst (λ b. TellsKind m (told_form t d.desc) (told_act t) text d b (Refuse WrongKind)) (sym kind) refl)),
+        (subst (λ b. TellsKind m (told_form t d.desc) (act_told t) text d b (Refuse WrongKind)) (sym kind) refl)),
     (refl, refl),
   )
 
   pub tell_comes : (t : Telling) (label text : List ℕ) (d : Dispatch) (answer : StepAnswer) (new : ServerState) → under label ≡ Some d → is_told_of t d.desc.kind ≡ true
-      → ServerTells p.server m d.id (told_form t d.desc) (told_act t) text answer new → Comes (IsDeedAt p (told_event t label text)) p answer (with_server p new)
+      → ServerTells p.server m d.id (told_form t d.desc) (act_told t) text answer new → Comes (IsDeedAt p (told_event t label text)) p answer (with_server p new)
   tell_comes t label text d answer new here kind (inl (v, (is, fits), does)) =
-      let deed = Tell d (told_act t v) in (
+      let deed = Tell d (act_told t v) in (
         deed,
         told_as t label text deed (subst (λ o. OfOne t text o deed) (sym here)
-            (subst (λ b. TellsKind m (told_form t d.desc) (told_act t) text d b deed) (sym kind) (inl (v, is, fits, refl)))),
+            (subst (λ b. TellsKind m (told_form t d.desc) (act_told t) text d b deed) (sym kind) (inl (v, is, fits, refl)))),
         (new, does, refl),
       )
   tell_comes t label text d answer new here kind (inr (none, refused, same)) = (
     Refuse BadValue,
     told_as t label text (Refuse BadValue) (subst (λ o. OfOne t text o (Refuse BadValue)) (sym here)
-        (subst (λ b. TellsKind m (told_form t d.desc) (told_act t) text d b (Refuse BadValue)) (sym kind) (inr (none, refl)))),
+        (subst (λ b. TellsKind m (told_form t d.desc) (act_told t) text d b (Refuse BadValue)) (sym kind) (inr (none, refl)))),
     (refused, ap (with_server p) same),
   )
 

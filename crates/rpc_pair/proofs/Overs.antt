@@ -16,7 +16,7 @@ use Rattle.rpc_book.specs.Books.{BookState}
 use Rattle.rpc_pair.specs.Feeds.{BookCloses, BookTakes, ServerCloses, ServerTakes}
 use Rattle.rpc_pair.specs.Moving.{IsCarried, IsMoved, IsSpent, TakesPiece}
 use Rattle.rpc_pair.specs.Pairs.{PairState, BookMoves, Came, Comes, Does, DoesOver, IsDeedAt, ServerMoves, down_flight, is_book_closed, is_server_closed, nothing, up_flight}
-use Rattle.rpc_pair.specs.Wires.{ActsOver, MovesDownOver, MovesUpOver, PutsOver, Tells, TurnsOver}
+use Rattle.rpc_pair.specs.Wires.{ActsOver, MovesDownOver, MovesUpOver, PutsOver, WireTells, TurnsOver}
 use Rattle.rpc_pair.proofs.Outgoing.{gains_none}
 
 -- where nothing failed two wires are as they were
@@ -38,11 +38,11 @@ on_ok (Err e) turns did = tt
 
 module _ {W : Type 0} (honest : W → Type 0) (sent given : W → Option (List ℕ)) where
   -- nothing passed a wire
-  pub tells_nothing : (w new : W) → sent new ≡ sent w → given new ≡ given w → Tells honest sent given w new [] nothing
+  pub tells_nothing : (w new : W) → sent new ≡ sent w → given new ≡ given w → WireTells honest sent given w new [] nothing
   tells_nothing w new put came = record { put_is = gains_none sent w new put; came_is = gains_none given w new came; spent = λ h e. absurd cc }
 
   came_tells : (w new : W) (n : ℕ) (Moved : List ℕ → Bool → Type 0) (c : IsCarried honest sent given w new n Moved) → sent new ≡ sent w
-      → Tells honest sent given w new [] (record { bytes = c.bytes; short = c.short })
+      → WireTells honest sent given w new [] (record { bytes = c.bytes; short = c.short })
   came_tells w new n Moved c same = record {
     put_is = gains_none sent w new same;
     came_is = c.gained;
@@ -89,7 +89,7 @@ module _ {W : Type 0} (honest : W → Type 0) (sent given : W → Option (List �
     }
 
   -- bytes are put behind what a wire gave
-  put_after : (w mid new : W) (put : List ℕ) (came : Came) → Tells honest sent given w mid [] came → Gains sent mid new put → given new ≡ given mid → Tells honest sent given w new put came
+  put_after : (w mid new : W) (put : List ℕ) (came : Came) → WireTells honest sent given w mid [] came → Gains sent mid new put → given new ≡ given mid → WireTells honest sent given w new put came
   put_after w mid new put came tells gained same = record {
     put_is = Gains-trans sent w mid new [] put tells.put_is gained;
     came_is = same ∙ tells.came_is;

@@ -26,7 +26,7 @@ use Rattle.rpc_pair.specs.Made.{dispatches_of, made_dispatch}
 use Rattle.rpc_pair.specs.Pairs.{Came, IsDeedAt, IsTurn, PairState, Traffic, all_put, down_flight, up_flight}
 use Rattle.rpc_pair.specs.Rules.{IsOfSchema}
 use Rattle.rpc_pair.specs.Standing.{booked_of}
-use Rattle.rpc_pair.specs.Wires.{Flows, PutsOver, StandsFor, StandsOver, StartsOver, StepsTo, Tells, TurnsOver}
+use Rattle.rpc_pair.specs.Wires.{Flows, PutsOver, StandsFor, StandsOver, StartsOver, StepsTo, WireTells, TurnsOver}
 use Rattle.rpc_pair.proofs.BothEnds.{EndsHold}
 use Rattle.rpc_pair.proofs.Doing.{DoneAs, deed_done}
 use Rattle.rpc_pair.proofs.Edges.{stream_size}
@@ -128,7 +128,7 @@ module _ (r : Common) (is : IsOfSchema r) (w : World) (old : PairState) (up_sent
 -- ---- over two wires
 
 module _ {W : Type 0} (honest : W → Type 0) (sent given : W → Option (List ℕ)) where
-  told_by : (old new : W) (put : List ℕ) (came : Came) → honest old → Tells honest sent given old new put came → GivenIsFront (sent new) (given new)
+  told_by : (old new : W) (put : List ℕ) (came : Came) → honest old → WireTells honest sent given old new put came → GivenIsFront (sent new) (given new)
       → IsTold (sent old) (given old) (sent new) (given new) put came
   told_by old new put came is_honest tells front = record { put_is = tells.put_is; came_is = tells.came_is; front = front; spent = tells.spent is_honest }
 

@@ -14,13 +14,13 @@ use Rattle.rpc_server.specs.Servers.{ServerState}
 use Rattle.rpc_pair.specs.Callers.{dispatched_as}
 use Rattle.rpc_pair.specs.Pairs.{Answers}
 use Rattle.rpc_pair.specs.Stands.{answer_as}
-use Rattle.rpc_pair.specs.Texts.{IsReadAs}
+use Rattle.rpc_pair.specs.Texts.{IsValueWithin}
 
 -- the text is a value, by which an end does something; or it is none
 abbrev pub ByText : {S : Type 0} → ℕ → Form → List ℕ → S → (Value → StepAnswer → S → Type 0) → StepAnswer → S → Type 0
 ByText m form text old Does answer new =
-    ((v : Value) × IsReadAs m form text (Some v) × Does v answer new)
-    ⊎ (IsReadAs m form text None × (answer ≡ Refused BadValue) × (new ≡ old))
+    ((v : Value) × IsValueWithin m form text (Some v) × Does v answer new)
+    ⊎ (IsValueWithin m form text None × (answer ≡ Refused BadValue) × (new ≡ old))
 
 abbrev pub BookAsks : BookState → ℕ → List ℕ → RpcDesc → List ℕ → StepAnswer → BookState → Type 0
 BookAsks old m label d text answer new =

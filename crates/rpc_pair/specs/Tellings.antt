@@ -11,11 +11,11 @@ use Rattle.rpc_talk.specs.Parts.{is_stream, takes_reply}
 use Rattle.rpc_pair.specs.declared.telling.Telling.{Telling}
 use Rattle.rpc_pair.specs.declared.telling.Telling.TheVariants as telling
 
-abbrev pub told_act : Telling → Value → Act
-told_act telling.Reply v = Reply v
-told_act telling.Begin v = Begin v
-told_act telling.Decline v = Decline v
-told_act telling.Item v = Give v
+abbrev pub act_told : Telling → Value → Act
+act_told telling.Reply v = Reply v
+act_told telling.Begin v = Begin v
+act_told telling.Decline v = Decline v
+act_told telling.Item v = Give v
 
 -- of which kinds of procedures they are
 abbrev pub is_told_of : Telling → Kind → Bool

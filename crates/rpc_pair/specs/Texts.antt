@@ -5,6 +5,6 @@ use Rattle.bp_value.specs.Fits.{Fits}
 use Rattle.bp_value.specs.Form.{Form}
 use Rattle.bp_text_grammar.specs.WholeTexts.{IsValueText}
 
-abbrev pub IsReadAs : ℕ → Form → List ℕ → Option Value → Type 0
-IsReadAs m form text None = (v : Value) → IsValueText form v text → Fits m form v → ⊥
-IsReadAs m form text (Some v) = IsValueText form v text × Fits m form v
+abbrev pub IsValueWithin : ℕ → Form → List ℕ → Option Value → Type 0
+IsValueWithin m form text None = (v : Value) → IsValueText form v text → Fits m form v → ⊥
+IsValueWithin m form text (Some v) = IsValueText form v text × Fits m form v

@@ -17,7 +17,7 @@ use Rattle.rpc_pair.specs.Standing.{EndsStand}
 -- ---- any wires
 
 -- these bytes were put to a wire, and these it gave; an honest one that came short had no more in flight
-pub record Tells {W : Type 0} (honest : W → Type 0) (sent given : W → Option (List ℕ)) (old new : W) (put : List ℕ) (came : Came) : Type 0 where
+pub record WireTells {W : Type 0} (honest : W → Type 0) (sent given : W → Option (List ℕ)) (old new : W) (put : List ℕ) (came : Came) : Type 0 where
   pub put_is : Gains sent old new put
   pub came_is : Gains given old new came.bytes
   pub spent : honest old → came.short ≡ true → IsSpent (in_flight (sent old) (given new))
@@ -27,8 +27,8 @@ pub record TurnsOver {W : Type 0} (honest : W → Type 0) (sent given : W → Op
     (answer : StepAnswer) (new : PairState) : Type 0 where
   pub traffic : Traffic
   pub turn : IsTurn old e traffic answer new
-  pub up_tells : Tells honest sent given up up_new traffic.up_put traffic.up_came
-  pub down_tells : Tells honest sent given down down_new traffic.down_put traffic.down_came
+  pub up_tells : WireTells honest sent given up up_new traffic.up_put traffic.up_came
+  pub down_tells : WireTells honest sent given down down_new traffic.down_put traffic.down_came
 
 -- an event is answered so, and nothing of what the ends have to say went out
 pub record ActsOver {W : Type 0} (honest : W → Type 0) (sent given : W → Option (List ℕ)) (up up_new down down_new : W) (old : PairState) (e : Event)
@@ -38,8 +38,8 @@ pub record ActsOver {W : Type 0} (honest : W → Type 0) (sent given : W → Opt
   pub up_came : Came
   pub down_came : Came
   pub does : DoesOver deed old up_came down_came answer new
-  pub up_tells : Tells honest sent given up up_new [] up_came
-  pub down_tells : Tells honest sent given down down_new [] down_came
+  pub up_tells : WireTells honest sent given up up_new [] up_came
+  pub down_tells : WireTells honest sent given down down_new [] down_came
 
 -- ---- a world
 
@@ -106,11 +106,11 @@ pub record MovesUpOver {W : Type 0} (honest : W → Type 0) (sent given : W → 
     (new : PairState) : Type 0 where
   pub came : Came
   pub does : DoesOver (MoveUp count by) old came nothing Done new
-  pub tells : Tells honest sent given up up_new [] came
+  pub tells : WireTells honest sent given up up_new [] came
 
 -- and the client what comes down
 pub record MovesDownOver {W : Type 0} (honest : W → Type 0) (sent given : W → Option (List ℕ)) (old : PairState) (count : Option ℕ) (by : ℕ) (down down_new : W)
     (new : PairState) : Type 0 where
   pub came : Came
   pub does : DoesOver (MoveDown count by) old nothing came Done new
-  pub tells : Tells honest sent given down down_new [] came
+  pub tells : WireTells honest sent given down down_new [] came

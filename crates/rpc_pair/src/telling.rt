@@ -10,7 +10,7 @@ ghost use Rattle.rpc_meeting.specs.declared.answer.StepAnswer.{StepAnswer};
 ghost use Rattle.rpc_pair.specs.Asked.{ServerTells};
 ghost use Rattle.rpc_pair.specs.Pairs.{Answers};
 ghost use Rattle.rpc_pair.specs.Stands.{answer_as};
-ghost use Rattle.rpc_pair.specs.Tellings.{told_act, told_form, is_told_of};
+ghost use Rattle.rpc_pair.specs.Tellings.{act_told, told_form, is_told_of};
 
 use crate::texts::value_of;
 use bp_value::{Blob, OutOfMemory, Shape, Value};
@@ -53,7 +53,7 @@ impl Telling {
     }
 
     fn tell(self, server: &mut Server, id: i64, value: &Value) -> Result<(), ActError>
-        ensures did { IsActed server.old id (told_act self value.now) result server.new }
+        ensures did { IsActed server.old id (act_told self value.now) result server.new }
     {
         match self {
             Telling::Reply => server.reply(id, value),
@@ -91,7 +91,7 @@ pub fn tell_text(
 ) -> Result<StepAnswer, OutOfMemory>
     requires { IsCallable desc.now }
     ensures did { IfOk result (λ answer. ServerTells server.old max_message id
-        (told_form telling desc.now) (told_act telling) text.now answer server.new) }
+        (told_form telling desc.now) (act_told telling) text.now answer server.new) }
     ensures keeps { server.new.rules ≡ server.old.rules }
 {
     match value_of(alloc, telling.shape(desc), text.as_slice(), max_message)? {

@@ -3,7 +3,7 @@ ghost use Rattle.std.specs.Prelude.{◌≡◌, IfOk, MatchOption};
 ghost use Rattle.bp_value.specs.Fits.{Fits};
 ghost use Rattle.bp_value.specs.Form.{form_of};
 ghost use Rattle.bp_value.specs.Faults.{IsGood};
-ghost use Rattle.rpc_pair.specs.Texts.{IsReadAs};
+ghost use Rattle.rpc_pair.specs.Texts.{IsValueWithin};
 
 use bp_text::{TextError, read_value};
 use bp_value::{OutOfMemory, Shape, Value, fits};
@@ -17,7 +17,7 @@ pub fn value_of(
     max_len: u64,
 ) -> Result<Option<Value>, OutOfMemory>
     requires { IsGood (form_of shape.now) }
-    ensures { IfOk result (IsReadAs max_len (form_of shape.now) text.now) }
+    ensures { IfOk result (IsValueWithin max_len (form_of shape.now) text.now) }
 {
     match read_value(alloc, shape, text) {
         Ok(value) => Ok(within(shape, value, max_len)),

@@ -7,7 +7,7 @@ use Rattle.rpc_pair.specs.Made.{dispatches_of, made_dispatch}
 use Rattle.rpc_pair.specs.Pairs.{PairState, Comes, IsDeedAt, with_server}
 use Rattle.rpc_msg.specs.declared.shared.Limits.{Limits}
 use Rattle.rpc_pair.specs.Asked.{ServerTells}
-use Rattle.rpc_pair.specs.Tellings.{is_told_of, told_act, told_event, told_form}
+use Rattle.rpc_pair.specs.Tellings.{is_told_of, act_told, told_event, told_form}
 use Rattle.rpc_pair.proofs.Coming.{ok_comes}
 use Rattle.rpc_pair.proofs.ComingActs.{tell_comes, tell_none, tell_wrong}
 use Rattle.rpc_pair.proofs.pair.Pair.tell.Goals as goal
@@ -33,10 +33,10 @@ returns c =
     let here : find_label c.args.label.now (dispatches_of p.book) ≡ Some (made_dispatch c.in-Some.made.now) = search rules in
     let kind : is_told_of c.args.telling c.in-Some.made.now.desc.kind ≡ true = search rules in
     let did : IfOk c.tell_text.result (λ answer. ServerTells c.self.inside.server c.self.inside.limits.max_message c.in-Some.made.now.id (told_form c.args.telling c.in-Some.made.now.desc)
-    (told_act c.args.telling) c.args.text.now answer c.tell_text.new.server) = search (rules, c.tell_text.ensures.did) in
+    (act_told c.args.telling) c.args.text.now answer c.tell_text.new.server) = search (rules, c.tell_text.ensures.did) in
     subst (λ (q : PairState). IfOk c.tell_text.result (λ answer. Comes (IsDeedAt q (told_event c.args.telling c.args.label.now c.args.text.now)) q answer (with_server p c.tell_text.new.server)))
     c.self.view_is
     (ok_comes c.tell_text.result (λ answer tells. tell_comes p c.args.telling c.args.label.now c.args.text.now (made_dispatch c.in-Some.made.now) answer c.tell_text.new.server here kind
-    (subst (λ (l : Limits). ServerTells p.server l.max_message c.in-Some.made.now.id (told_form c.args.telling c.in-Some.made.now.desc) (told_act c.args.telling) c.args.text.now answer
+    (subst (λ (l : Limits). ServerTells p.server l.max_message c.in-Some.made.now.id (told_form c.args.telling c.in-Some.made.now.desc) (act_told c.args.telling) c.args.text.now answer
     c.tell_text.new.server) (sym c.self.invariant.client_limits) tells))
     did)
