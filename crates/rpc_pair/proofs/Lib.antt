@@ -68,3 +68,6 @@ pub mod Pairing
 pub mod Overs
 pub mod Showing
 pub mod Movable
+pub mod SeenFrames
+pub mod SeenFaults
+pub mod SeenParts
