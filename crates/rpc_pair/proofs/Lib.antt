@@ -71,3 +71,4 @@ pub mod Movable
 pub mod SeenFrames
 pub mod SeenFaults
 pub mod SeenParts
+pub mod SeenCauses

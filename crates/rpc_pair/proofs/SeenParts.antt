@@ -9,10 +9,7 @@ use Rattle.rpc_talk.specs.Growing.{adds}
 use Rattle.rpc_talk.specs.Parts.{cut_parts, goes_on, parts_of}
 use Rattle.rpc_talk.specs.Said.{said_behind}
 use Rattle.rpc_talk.proofs.OneMore.{parts_on, parts_over}
-
--- these parts are the first of those
-abbrev pub IsFrontOf : List Part → List Part → Type 0
-IsFrontOf some all = (later : List Part) × (all ≡ some ++ later)
+use Rattle.rpc_pair.specs.Seen.{IsFrontOf}
 
 front_along : (a b c : List Part) → IsFrontOf a b → IsFrontOf b c → IsFrontOf a c
 front_along a b c (x, one) (y, two) = (x ++ y, two ∙ (ap (λ t. t ++ y) one ∙ append_assoc a x y))
