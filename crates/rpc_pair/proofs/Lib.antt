@@ -72,3 +72,6 @@ pub mod SeenFrames
 pub mod SeenFaults
 pub mod SeenParts
 pub mod SeenCauses
+pub mod SeenTook
+pub mod SeenFeeds
+pub mod SeenMoves
