@@ -75,3 +75,6 @@ pub mod SeenCauses
 pub mod SeenTook
 pub mod SeenFeeds
 pub mod SeenMoves
+pub mod SeenSources
+pub mod SeenEnds
+pub mod SeenDeeds
