@@ -78,3 +78,5 @@ pub mod SeenMoves
 pub mod SeenSources
 pub mod SeenEnds
 pub mod SeenDeeds
+pub mod SeenShows
+pub mod SeenRuns
