@@ -1,5 +1,5 @@
 -- Which causes the bytes of a stream have.
-use Rattle.std.proofs.Common.{◌≡◌, refl, sym, ap, ◌∙◌, subst, ℕ, ◌+◌, ℤ, Bool, true, false, ◌&&◌, if◌then◌else◌, List, [], ◌∷◌, length}
+use Rattle.std.proofs.Common.{◌≡◌, subst, ℕ, ◌+◌, ℤ, Bool, true, false, ◌&&◌, if◌then◌else◌, List, [], ◌∷◌, length}
 use Rattle.std.specs.Prelude.{Option, Some, None}
 use Rattle.std.specs.Option.{option_map}
 use Rattle.rpc_frame.specs.States.{stream_place}
@@ -14,7 +14,7 @@ use Rattle.rpc_msg.specs.declared.shared.CloseCause.{CloseCause}
 use Rattle.rpc_msg.specs.declared.shared.CloseCause.TheVariants as cause
 use Rattle.rpc_log.specs.Logs.{responses_of}
 use Rattle.rpc_log.specs.Readings.{fault_in, has_one, header_in, message_in}
-use Rattle.rpc_talk.specs.Causes.{answer_cause, bad_header, bad_message, cause_after, cause_in, cause_of, frame_cause, header_cause, message_cause, placed, response_cause, said_cause, too_long_at, unwelcome, with_message}
+use Rattle.rpc_talk.specs.Causes.{bad_header, bad_message, cause_after, cause_in, cause_of, frame_cause, header_cause, message_cause, placed, response_cause, said_cause, too_long_at, unwelcome, with_message}
 use Rattle.rpc_talk.specs.Parts.{goes_on, is_stream, parts_of}
 use Rattle.rpc_talk.specs.Said.{Said, Reply, Begun, Declined, Item, Eof, Unreadable, Failed, said_behind}
 use Rattle.rpc_talk.specs.Welcome.{Call, find_call, is_welcome}

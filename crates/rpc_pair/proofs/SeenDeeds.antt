@@ -1,10 +1,9 @@
 -- What a deed makes of a book, by all bytes that came to it.
-use Rattle.std.proofs.Common.{◌≡◌, refl, sym, ap, ◌∙◌, subst, ℕ, ℤ, max, Bool, true, false, ◌&&◌, if◌then◌else◌, List, [], ◌∷◌, ◌++◌, map, inl, inr, ◌⊎◌}
+use Rattle.std.proofs.Common.{◌≡◌, refl, sym, ap, ◌∙◌, subst, ℕ, ℤ, max, Bool, true, false, ◌&&◌, if◌then◌else◌, List, [], ◌∷◌, ◌++◌, inl, inr}
 use Rattle.std.specs.Prelude.{Option, Some, None, Result, Ok, Err}
 use Rattle.std.specs.Option.{is_none}
 use Rattle.bp_value.specs.declared.value.Value.{Value}
 use Rattle.rpc_msg.specs.declared.shared.CloseCause.{CloseCause}
-use Rattle.rpc_msg.specs.declared.shared.CloseCause.TheVariants as cause
 use Rattle.rpc_msg.specs.declared.shared.Ticket.{Ticket}
 use Rattle.rpc_schedule.specs.declared.event.Event.{Event}
 use Rattle.rpc_schema.specs.declared.desc.RpcDesc.{RpcDesc}
@@ -23,7 +22,7 @@ use Rattle.rpc_pair.proofs.SeenEnds.{ClosesFor, TickCloses, shut_cause, tick_cau
 use Rattle.rpc_pair.proofs.SeenFaults.{calm_more}
 use Rattle.rpc_pair.proofs.SeenMoves.{TookOn, book_moves, took_none}
 use Rattle.rpc_pair.proofs.SeenSources.{IsSourceOf}
-use Rattle.rpc_pair.proofs.SeenTook.{IsOwnCause, Took, TookAll, open_all, took_same}
+use Rattle.rpc_pair.proofs.SeenTook.{IsOwnCause, Took, open_all, took_same}
 
 link_going : (e : EndState) → is_link_open e ≡ true → e.cause ≡ None
 link_going e is = by e.greeted e.cause is

@@ -1,14 +1,13 @@
 -- How moments and closes change the cause of an end.
-use Rattle.std.proofs.Common.{◌≡◌, refl, sym, ap, ◌∙◌, ℕ, ◌-◌, ◌<◌, Bool, true, false, ◌&&◌, if◌then◌else◌, inl, inr, ◌⊎◌}
+use Rattle.std.proofs.Common.{◌≡◌, refl, ℕ, ◌-◌, ◌<◌, Bool, true, false, ◌&&◌, if◌then◌else◌, inl, inr, ◌⊎◌}
 use Rattle.std.specs.Prelude.{nat_le, nat_lt, Option, Some, None}
 use Rattle.std.specs.Option.{is_some}
 use Rattle.std.proofs.lemmas.Bool.{ltb-true}
-use Rattle.rpc_msg.specs.Beats.{after_beat, beat_of, moment}
-use Rattle.rpc_msg.specs.declared.beat.BeatAct.{BeatAct}
+use Rattle.rpc_msg.specs.Beats.{beat_of, moment}
 use Rattle.rpc_msg.specs.declared.beat.BeatAct.TheVariants as act
 use Rattle.rpc_msg.specs.declared.shared.CloseCause.{CloseCause}
 use Rattle.rpc_msg.specs.declared.shared.CloseCause.TheVariants as cause
-use Rattle.rpc_end.specs.Ends.{EndState, acted, after_tick, is_closed, is_link_open, shut, shut_by}
+use Rattle.rpc_end.specs.Ends.{EndState, acted, after_tick, is_link_open, shut, shut_by}
 
 -- it is as it was, or an open end closes for this
 abbrev pub ClosesFor : EndState → CloseCause → EndState → Type 0

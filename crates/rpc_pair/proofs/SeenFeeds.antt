@@ -1,14 +1,12 @@
 -- What a feed makes of a book, by all bytes that came to it.
-use Rattle.std.proofs.Common.{◌≡◌, refl, sym, ap, ◌∙◌, subst, ℕ, ◌+◌, ◌<◌, ◌≤◌, List, [], ◌∷◌, ◌++◌, length, take, drop, append_assoc, arith, inl, inr, ◌⊎◌}
-use Rattle.std.specs.Prelude.{Option, Some, None, Ok, Err}
+use Rattle.std.proofs.Common.{◌≡◌, sym, ap, ◌∙◌, ℕ, List, ◌++◌, length, take, drop, append_assoc, arith, inl, inr, ◌⊎◌}
+use Rattle.std.specs.Prelude.{Some, None}
 use Rattle.std.proofs.lemmas.List.{length-append, take-append-drop}
 use Rattle.rpc_msg.specs.declared.shared.CloseCause.{CloseCause}
 use Rattle.rpc_msg.specs.declared.shared.CloseCause.TheVariants as cause
-use Rattle.rpc_msg.specs.declared.shared.FeedError.TheVariants as feed
-use Rattle.rpc_msg.specs.declared.shared.Limits.{Limits}
 use Rattle.rpc_end.specs.Ends.{EndState, shut, shut_by}
 use Rattle.rpc_book.specs.Books.{BookState, fault_of, with_connection}
-use Rattle.rpc_book.specs.Feeds.{ClosesAt, FeedCloses, HearsMessage, IsFull, PassesFault, PassesPart, TakesOn, end_heard, journal_limit, with_bytes}
+use Rattle.rpc_book.specs.Feeds.{ClosesAt, FeedCloses, HearsMessage, IsFull, PassesFault, PassesPart, TakesOn, end_heard, with_bytes}
 use Rattle.rpc_book.proofs.Once.{count_within}
 use Rattle.rpc_pair.proofs.SeenTook.{Took, TookAll, TookFault, TookFull, no_cause}
 

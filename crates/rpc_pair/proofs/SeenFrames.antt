@@ -1,9 +1,9 @@
 -- Where a length is too long, more bytes change nothing.
-use Rattle.std.proofs.Common.{◌≡◌, refl, sym, ap, ◌∙◌, subst, ℕ, ◌+◌, ◌-◌, ◌^◌, ◌<◌, List, [], ◌∷◌, ◌++◌, length, drop, append_assoc, arith}
-use Rattle.std.specs.Prelude.{Option, Some, None}
+use Rattle.std.proofs.Common.{◌≡◌, refl, sym, ap, ◌∙◌, subst, ℕ, ◌-◌, ◌^◌, ◌<◌, List, [], ◌∷◌, ◌++◌, length, drop, append_assoc, arith}
+use Rattle.std.specs.Prelude.{Option, Some}
 use Rattle.std.specs.Option.{option_map}
 use Rattle.std.proofs.lemmas.List.{length-append}
-use Rattle.readers.specs.Reader.{Outcome, whole, more, bad, Each, IsByte, IsFaultAt, Stands}
+use Rattle.readers.specs.Reader.{Outcome, whole, more, bad, Each, IsByte, IsFaultAt}
 use Rattle.readers.proofs.Places.{only_bad, only_whole, told_bad}
 use Rattle.readers.proofs.Readers.{each-front, each-rest}
 use Rattle.bp_num.specs.declared.number.Why.{Why}

@@ -1,11 +1,10 @@
 -- What a movement makes of a book, by all bytes that came to it.
-use Rattle.std.proofs.Common.{◌≡◌, ◌≢◌, refl, sym, ap, ◌∙◌, subst, ℕ, ◌<◌, min, Bool, true, false, List, [], ◌∷◌, ◌++◌, length, take, drop, append_assoc, inl, inr, ◌⊎◌}
+use Rattle.std.proofs.Common.{◌≡◌, ◌≢◌, sym, ap, ◌∙◌, subst, ℕ, Bool, true, false, List, [], ◌∷◌, ◌++◌, take, drop, append_assoc, inl, inr, ◌⊎◌}
 use Rattle.std.specs.Prelude.{None}
 use Rattle.std.specs.List.{concat}
 use Rattle.std.proofs.lemmas.List.{append-nil, take-append-drop}
 use Rattle.readers.specs.Reader.{Each, IsByte}
 use Rattle.readers.proofs.Readers.{each-join}
-use Rattle.rpc_msg.specs.declared.shared.CloseCause.{CloseCause}
 use Rattle.rpc_book.specs.Books.{BookState}
 use Rattle.rpc_pair.specs.Feeds.{BookCloses, BookTakes}
 use Rattle.rpc_pair.specs.Moving.{IsFeed, IsMove, MoveEnds, Moving, TakesPiece, Taking}

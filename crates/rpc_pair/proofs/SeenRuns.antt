@@ -1,5 +1,5 @@
 -- A run of turns over any wires shows what they gave to the client.
-use Rattle.std.proofs.Common.{◌≡◌, refl, sym, ap, ◌∙◌, subst, ℕ, ◌^◌, ◌<◌, List, [], ◌∷◌, ◌++◌, length, arith, inl}
+use Rattle.std.proofs.Common.{◌≡◌, refl, sym, ap, ◌∙◌, subst, ℕ, ◌^◌, ◌<◌, List, [], ◌∷◌, ◌++◌, arith, inl}
 use Rattle.std.specs.Prelude.{None}
 use Rattle.rpc_msg.specs.Limits.{AreLimits}
 use Rattle.rpc_msg.specs.declared.shared.Limits.{Limits}
@@ -12,14 +12,14 @@ use Rattle.rpc_meeting.specs.declared.answer.StepAnswer.{StepAnswer}
 use Rattle.rpc_book.specs.Books.{BookState, fault_of, first_book}
 use Rattle.rpc_pair.specs.Made.{dispatches_of}
 use Rattle.rpc_pair.specs.Pairs.{IsNewPair, IsTurn, PairState, Traffic, all_put}
-use Rattle.rpc_pair.specs.Played.{AreTurns, MakesTurn, Turn, all_down}
+use Rattle.rpc_pair.specs.Played.{AreTurns, Turn, all_down}
 use Rattle.rpc_pair.specs.Seen.{BookShows}
 use Rattle.rpc_pair.specs.Standing.{booked_menu}
 use Rattle.rpc_pair.proofs.SeenDeeds.{deed_took}
 use Rattle.rpc_pair.proofs.SeenMoves.{TookOn, took_along, took_none}
 use Rattle.rpc_pair.proofs.SeenShows.{took_shows}
 use Rattle.rpc_pair.proofs.SeenSources.{deed_source}
-use Rattle.rpc_pair.proofs.SeenTook.{IsOwnCause, Took, took_same}
+use Rattle.rpc_pair.proofs.SeenTook.{Took, took_same}
 
 -- ---- turns
 

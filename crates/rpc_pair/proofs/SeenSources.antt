@@ -1,5 +1,5 @@
 -- Which events close an end, and which is a moment.
-use Rattle.std.proofs.Common.{◌≡◌, refl, sym, ap, ◌∙◌, subst, ℕ, ℤ, Bool, true, false, if◌then◌else◌, List, inl, inr, ◌⊎◌}
+use Rattle.std.proofs.Common.{◌≡◌, refl, sym, subst, ℕ, ℤ, Bool, true, false, if◌then◌else◌, List, inl, inr, ◌⊎◌}
 use Rattle.std.specs.Prelude.{Option, Some, None}
 use Rattle.bp_value.specs.Form.{Form, form_of}
 use Rattle.bp_value.specs.declared.value.Value.{Value}
@@ -10,7 +10,7 @@ use Rattle.rpc_schedule.specs.declared.event.Event.{Event}
 use Rattle.rpc_schedule.specs.declared.event.Event.TheVariants as ev
 use Rattle.rpc_talk.specs.Acts.{Act, Reply, Fail, Begin, Decline, Give, End}
 use Rattle.rpc_talk.specs.Parts.{is_stream, is_tracked, takes_reply}
-use Rattle.rpc_meeting.specs.Deeds.{Deed, Refuse, Call, Abort, Tell, MoveUp, MoveDown, Tick, CloseClient, CloseServer, Reveal, AsText, AsksBest, AsksEntry, AsksLine, AsksVersion, IsDeedOf, TellsKind, TellsValue, UnlessTaken, abort_deed, act_deed, find_label, menu_deed, show_deed}
+use Rattle.rpc_meeting.specs.Deeds.{Deed, Refuse, Call, Tell, Tick, CloseClient, CloseServer, AsText, AsksBest, AsksEntry, AsksLine, AsksVersion, IsDeedOf, TellsKind, TellsValue, UnlessTaken, abort_deed, act_deed, find_label, menu_deed, show_deed}
 use Rattle.rpc_meeting.specs.declared.answer.Refusal.TheVariants.{WrongKind}
 use Rattle.rpc_meeting.specs.Menus.{best_version, called_versions, is_called, listings_told}
 use Rattle.rpc_meeting.specs.Talks.{Dispatch, line_named}

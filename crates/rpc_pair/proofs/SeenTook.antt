@@ -1,5 +1,5 @@
 -- A book by all bytes that came to it: what it took of them, and why it stopped. What changes neither its bytes nor their fault keeps this.
-use Rattle.std.proofs.Common.{◌≡◌, refl, sym, ap, ◌∙◌, subst, ℕ, ◌<◌, ◌≤◌, false, List, [], ◌∷◌, ◌++◌, length, take, inl, inr, ◌⊎◌}
+use Rattle.std.proofs.Common.{◌≡◌, refl, sym, ap, ◌∙◌, subst, ℕ, ◌<◌, false, List, ◌++◌, length, inl, inr, ◌⊎◌}
 use Rattle.std.specs.Prelude.{Option, Some, None}
 use Rattle.std.specs.Option.{is_some}
 use Rattle.rpc_msg.specs.declared.shared.CloseCause.{CloseCause}

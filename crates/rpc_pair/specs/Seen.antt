@@ -15,31 +15,31 @@ use Rattle.rpc_book.specs.Feeds.{journal_limit}
 -- ---- the client
 
 -- the fault that stands first in some bytes, by the dispatches of a book
-abbrev pub fault_in : BookState → List ℕ → Option CloseCause
-fault_in b given = cause_of b.limits.max_message (calls_of b.made) given
+abbrev pub fault_given : BookState → List ℕ → Option CloseCause
+fault_given b given = cause_of b.limits.max_message (calls_of b.made) given
 
 -- what they make of a dispatch
-abbrev pub held_by_bytes : BookState → List ℕ → Booked → Held
-held_by_bytes b given d = held b.limits.max_message (calls_of b.made) (log_of b.limits.max_message given) (call_of d) d.made.cut (is_closed b.link)
+abbrev pub held_given : BookState → List ℕ → Booked → Held
+held_given b given d = held b.limits.max_message (calls_of b.made) (log_of b.limits.max_message given) (call_of d) d.made.cut (is_closed b.link)
 
 -- these parts are the first of those
-abbrev pub IsFrontOf : List Part → List Part → Type 0
-IsFrontOf some all = (later : List Part) × (all ≡ some ++ later)
+abbrev pub AreFirstOf : List Part → List Part → Type 0
+AreFirstOf some all = (later : List Part) × (all ≡ some ++ later)
 
 -- a book that got these bytes took all that came, of which nothing is at fault
 abbrev pub TookCalmly : BookState → List ℕ → Type 0
-TookCalmly b given = (b.got ≡ given) × (fault_in b given ≡ None)
+TookCalmly b given = (b.got ≡ given) × (fault_given b given ≡ None)
 
 -- Why a book is closed, by all that came. What is at fault is so in all bytes; a journal is full only where more came than it may keep; and
 -- some causes never close a book here.
 abbrev pub CauseShows : BookState → List ℕ → Option CloseCause → Type 0
 CauseShows b given None = TookCalmly b given
-CauseShows b given (Some (cause.BadFrame at)) = fault_in b given ≡ Some (cause.BadFrame at)
-CauseShows b given (Some (cause.BadHeader why)) = fault_in b given ≡ Some (cause.BadHeader why)
-CauseShows b given (Some cause.NoCommonProtocol) = fault_in b given ≡ Some cause.NoCommonProtocol
-CauseShows b given (Some (cause.BadMessage why)) = fault_in b given ≡ Some (cause.BadMessage why)
-CauseShows b given (Some (cause.UnknownId id)) = fault_in b given ≡ Some (cause.UnknownId id)
-CauseShows b given (Some (cause.BadStreamData id why)) = fault_in b given ≡ Some (cause.BadStreamData id why)
+CauseShows b given (Some (cause.BadFrame at)) = fault_given b given ≡ Some (cause.BadFrame at)
+CauseShows b given (Some (cause.BadHeader why)) = fault_given b given ≡ Some (cause.BadHeader why)
+CauseShows b given (Some cause.NoCommonProtocol) = fault_given b given ≡ Some cause.NoCommonProtocol
+CauseShows b given (Some (cause.BadMessage why)) = fault_given b given ≡ Some (cause.BadMessage why)
+CauseShows b given (Some (cause.UnknownId id)) = fault_given b given ≡ Some (cause.UnknownId id)
+CauseShows b given (Some (cause.BadStreamData id why)) = fault_given b given ≡ Some (cause.BadStreamData id why)
 CauseShows b given (Some (cause.DuplicateQuery id)) = ⊥
 CauseShows b given (Some (cause.TooManyOpen count)) = ⊥
 CauseShows b given (Some (cause.Late last now)) = TookCalmly b given
@@ -49,9 +49,9 @@ CauseShows b given (Some cause.LinkFault) = ⊥
 CauseShows b given (Some (cause.JournalFull got)) = (length b.got ≡ got) × (journal_limit < length given)
 CauseShows b given (Some cause.OutOfMemory) = ⊥
 
-abbrev pub is_full : Option CloseCause → Bool
-is_full (Some (cause.JournalFull got)) = true
-is_full _ = false
+abbrev pub is_journal_full : Option CloseCause → Bool
+is_journal_full (Some (cause.JournalFull got)) = true
+is_journal_full _ = false
 
 -- What a book shows where all of these bytes came: it got the first of them. Each dispatch holds what they make of it, or where the journal was
 -- full the first parts of that.
@@ -59,6 +59,6 @@ pub record BookShows (given : List ℕ) (b : BookState) : Type 0 where
   pub bytes : Each IsByte given
   pub left : List ℕ
   pub front : given ≡ b.got ++ left
-  pub held : is_full b.link.cause ≡ false → Each (λ d. held_in b d ≡ held_by_bytes b given d) b.made
-  pub parts : Each (λ d. IsFrontOf (held_in b d).parts (held_by_bytes b given d).parts) b.made
+  pub held : is_journal_full b.link.cause ≡ false → Each (λ d. held_in b d ≡ held_given b given d) b.made
+  pub parts : Each (λ d. AreFirstOf (held_in b d).parts (held_given b given d).parts) b.made
   pub cause : CauseShows b given b.link.cause
