@@ -80,3 +80,4 @@ pub mod SeenEnds
 pub mod SeenDeeds
 pub mod SeenShows
 pub mod SeenRuns
+pub mod SeenCounts

@@ -1,5 +1,5 @@
 -- What is seen of both ends, by all bytes that the wires gave, honest or not.
-use Rattle.std.specs.Prelude.{◌≡◌, ℕ, ◌<◌, Bool, true, false, List, ◌++◌, length, Option, Some, None}
+use Rattle.std.specs.Prelude.{◌≡◌, ℕ, ◌+◌, ◌<◌, Bool, true, false, List, ◌++◌, length, Option, Some, None}
 use Rattle.readers.specs.Reader.{Each, IsByte}
 use Rattle.rpc_msg.specs.declared.shared.CloseCause.{CloseCause}
 use Rattle.rpc_msg.specs.declared.shared.CloseCause.TheVariants as cause
@@ -11,6 +11,9 @@ use Rattle.rpc_talk.specs.Welcome.{held}
 use Rattle.rpc_end.specs.Ends.{is_closed}
 use Rattle.rpc_book.specs.Books.{BookState, Booked, call_of, calls_of, held_in}
 use Rattle.rpc_book.specs.Feeds.{journal_limit}
+use Rattle.rpc_meeting.specs.Worlds.{header_size}
+use Rattle.rpc_pair.specs.Played.{Turn, all_down, all_down_put, all_up, all_up_put}
+use Rattle.rpc_pair.specs.declared.moved.Moved.{Moved}
 
 -- ---- the client
 
@@ -62,3 +65,12 @@ pub record BookShows (given : List ℕ) (b : BookState) : Type 0 where
   pub held : is_journal_full b.link.cause ≡ false → Each (λ d. held_in b d ≡ held_given b given d) b.made
   pub parts : Each (λ d. AreFirstOf (held_in b d).parts (held_given b given d).parts) b.made
   pub cause : CauseShows b given b.link.cause
+
+-- ---- counts
+
+-- so many bytes were put to each wire behind its header, and so many came from it
+pub record AreCounted (turns : List Turn) (counts : Moved) : Type 0 where
+  pub up : counts.up ≡ length (all_up turns)
+  pub up_put : counts.up_put ≡ header_size + length (all_up_put turns)
+  pub down : counts.down ≡ length (all_down turns)
+  pub down_put : counts.down_put ≡ header_size + length (all_down_put turns)
