@@ -81,3 +81,4 @@ pub mod SeenDeeds
 pub mod SeenShows
 pub mod SeenRuns
 pub mod SeenCounts
+pub mod SeenPieces
