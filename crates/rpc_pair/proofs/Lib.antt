@@ -82,3 +82,5 @@ pub mod SeenShows
 pub mod SeenRuns
 pub mod SeenCounts
 pub mod SeenPieces
+pub mod SeenQueries
+pub mod SeenServes

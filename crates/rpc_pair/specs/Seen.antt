@@ -1,6 +1,10 @@
 -- What is seen of both ends, by all bytes that the wires gave, honest or not.
-use Rattle.std.specs.Prelude.{◌≡◌, ℕ, ◌+◌, ◌<◌, Bool, true, false, List, ◌++◌, length, Option, Some, None}
+use Rattle.std.specs.Prelude.{◌≡◌, ℕ, ◌+◌, ◌<◌, ◌≤◌, ℤ, Bool, true, false, List, [], ◌++◌, length, Option, Some, None}
+use Rattle.std.specs.List.{count_by}
+use Rattle.std.specs.Ordering.{int_eq}
 use Rattle.readers.specs.Reader.{Each, IsByte}
+use Rattle.rpc_msg.specs.declared.message.Message.{Message}
+use Rattle.rpc_msg.specs.declared.message.Message.TheVariants as message
 use Rattle.rpc_msg.specs.declared.shared.CloseCause.{CloseCause}
 use Rattle.rpc_msg.specs.declared.shared.CloseCause.TheVariants as cause
 use Rattle.rpc_msg.specs.declared.shared.Part.{Part}
@@ -12,6 +16,7 @@ use Rattle.rpc_end.specs.Ends.{is_closed}
 use Rattle.rpc_book.specs.Books.{BookState, Booked, call_of, calls_of, held_in}
 use Rattle.rpc_book.specs.Feeds.{journal_limit}
 use Rattle.rpc_meeting.specs.Worlds.{header_size}
+use Rattle.rpc_server.specs.Servers.{ServerState}
 use Rattle.rpc_pair.specs.Played.{Turn, all_down, all_down_put, all_up, all_up_put}
 use Rattle.rpc_pair.specs.declared.moved.Moved.{Moved}
 
@@ -65,6 +70,64 @@ pub record BookShows (given : List ℕ) (b : BookState) : Type 0 where
   pub held : is_journal_full b.link.cause ≡ false → Each (λ d. held_in b d ≡ held_given b given d) b.made
   pub parts : Each (λ d. AreFirstOf (held_in b d).parts (held_given b given d).parts) b.made
   pub cause : CauseShows b given b.link.cause
+
+-- ---- the server
+
+abbrev pub is_asked : Message → Bool
+is_asked message.Heartbeat = false
+is_asked (message.Query q) = true
+is_asked (message.Response r) = false
+
+abbrev pub is_asked_as : ℤ → Message → Bool
+is_asked_as id message.Heartbeat = false
+is_asked_as id (message.Query q) = int_eq q.id id
+is_asked_as id (message.Response r) = false
+
+abbrev pub is_answered_as : ℤ → Message → Bool
+is_answered_as id message.Heartbeat = false
+is_answered_as id (message.Query q) = false
+is_answered_as id (message.Response r) = int_eq r.id id
+
+abbrev pub IsNoAnswer : Message → Type 0
+IsNoAnswer message.Heartbeat = Unit {0}
+IsNoAnswer (message.Query q) = Unit {0}
+IsNoAnswer (message.Response r) = ⊥
+
+-- the messages of some bytes, and the fault that stands first in them where nothing was asked, so that any answer is at fault
+abbrev pub messages_given : ServerState → List ℕ → List Message
+messages_given s given = log_of s.rules.limits.max_message given
+
+abbrev pub unasked_fault : ServerState → List ℕ → Option CloseCause
+unasked_fault s given = cause_of s.rules.limits.max_message [] given
+
+-- nothing that came is at fault, and nothing was answered
+abbrev pub CameCalmly : ServerState → List ℕ → Type 0
+CameCalmly s given = (unasked_fault s given ≡ None) × Each IsNoAnswer (messages_given s given)
+
+-- Why a server is closed, by all that came: a fault of its frames and readings; an answer; a query whose id has another; or more queries than
+-- may be open. Some causes never close a server here.
+abbrev pub ServerCauseShows : ServerState → List ℕ → Option CloseCause → Type 0
+ServerCauseShows s given None = CameCalmly s given
+ServerCauseShows s given (Some (cause.BadFrame at)) = unasked_fault s given ≡ Some (cause.BadFrame at)
+ServerCauseShows s given (Some (cause.BadHeader why)) = unasked_fault s given ≡ Some (cause.BadHeader why)
+ServerCauseShows s given (Some cause.NoCommonProtocol) = unasked_fault s given ≡ Some cause.NoCommonProtocol
+ServerCauseShows s given (Some (cause.BadMessage why)) = unasked_fault s given ≡ Some (cause.BadMessage why)
+ServerCauseShows s given (Some (cause.UnknownId id)) =
+    (unasked_fault s given ≡ Some (cause.UnknownId id)) × (1 ≤ count_by (is_answered_as id) (messages_given s given))
+ServerCauseShows s given (Some (cause.BadStreamData id why)) = ⊥
+ServerCauseShows s given (Some (cause.DuplicateQuery id)) = 2 ≤ count_by (is_asked_as id) (messages_given s given)
+ServerCauseShows s given (Some (cause.TooManyOpen count)) = (count ≡ s.rules.limits.max_open) × (count < count_by is_asked (messages_given s given))
+ServerCauseShows s given (Some (cause.Late last now)) = CameCalmly s given
+ServerCauseShows s given (Some cause.EndOfInput) = CameCalmly s given
+ServerCauseShows s given (Some cause.ClosedHere) = CameCalmly s given
+ServerCauseShows s given (Some cause.LinkFault) = ⊥
+ServerCauseShows s given (Some (cause.JournalFull got)) = ⊥
+ServerCauseShows s given (Some cause.OutOfMemory) = ⊥
+
+-- what a server shows where all of these bytes came
+pub record ServerShows (given : List ℕ) (s : ServerState) : Type 0 where
+  pub bytes : Each IsByte given
+  pub cause : ServerCauseShows s given s.link.cause
 
 -- ---- counts
 
