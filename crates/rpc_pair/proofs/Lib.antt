@@ -84,3 +84,4 @@ pub mod SeenCounts
 pub mod SeenPieces
 pub mod SeenQueries
 pub mod SeenServes
+pub mod SeenServerFeeds
