@@ -85,3 +85,4 @@ pub mod SeenPieces
 pub mod SeenQueries
 pub mod SeenServes
 pub mod SeenServerFeeds
+pub mod SeenServerDeeds

@@ -90,7 +90,7 @@ count_push p log a = sum_by_push (λ x. if p x then 1 else 0) log a
 pub count_more : (p : Message → Bool) (log later : List Message) → count_by p log ≤ count_by p (log ++ later)
 count_more p log later = omega (arith, sum_by-append (λ x. if p x then 1 else 0) log later)
 
-few_open : (s : Standing) → open_count s ≤ 1
+pub few_open : (s : Standing) → open_count s ≤ 1
 few_open Nowhere = omega arith
 few_open (Open place begun) = omega arith
 few_open Stopped = omega arith
