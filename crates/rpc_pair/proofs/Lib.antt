@@ -86,3 +86,4 @@ pub mod SeenQueries
 pub mod SeenServes
 pub mod SeenServerFeeds
 pub mod SeenServerDeeds
+pub mod SeenServerRuns

@@ -11,7 +11,7 @@ use Rattle.rpc_schedule.specs.declared.event.Event.{Event}
 use Rattle.rpc_schema.specs.declared.desc.Entry.{Entry}
 use Rattle.rpc_talk.specs.Acts.{Act}
 use Rattle.rpc_talk.proofs.Accepting.{IsTaken}
-use Rattle.rpc_end.specs.Ends.{EndState, after_act, after_tick, is_closed, is_link_open, shut, shut_by, with_beat}
+use Rattle.rpc_end.specs.Ends.{EndState, after_act, after_tick, is_closed, is_link_open, shut, shut_by, taken_out, with_beat}
 use Rattle.rpc_end.specs.Taken.{HasTaken}
 use Rattle.rpc_client.proofs.Dispatches.{said_taken}
 use Rattle.rpc_meeting.specs.declared.answer.StepAnswer.{StepAnswer}
@@ -35,7 +35,7 @@ use Rattle.rpc_pair.proofs.SeenServerFeeds.{closes_serves, takes_serves}
 use Rattle.rpc_pair.proofs.SeenServes.{Serves, ServesAll, ServesNone, StopsFor, open_serves}
 use Rattle.rpc_pair.proofs.SeenSources.{IsSourceOf}
 use Rattle.rpc_pair.proofs.SeenTook.{IsOwnCause, going_open}
-use Rattle.rpc_pair.proofs.StillTaken.{shut_taken, tick_taken}
+use Rattle.rpc_pair.proofs.StillTaken.{out_taken, shut_taken, tick_taken}
 
 -- ---- a movement
 
@@ -137,6 +137,12 @@ module _ (given : List ℕ) (s : ServerState) (serves : Serves given s) where
       by : ClosesFor s.link why (shut s.link why) → KeepsServing (with_end s (shut s.link why))
       by (inl same) = same_serves (with_end s (shut s.link why)) like same
       by (inr (open_, is)) = closed_serves (with_end s (shut s.link why)) like why own open_ is
+
+  -- output is taken
+  pub out_serves : (count : ℕ) → KeepsServing (with_end s (taken_out s.link count))
+  out_serves count =
+      same_serves (with_end s (taken_out s.link count))
+      (record { max = refl; taken = λ bs log took. out_taken s.link given bs log took count; asked = λ log are. are; rules = refl }) refl
 
   -- ---- a handler's act
 
