@@ -87,3 +87,5 @@ pub mod SeenServes
 pub mod SeenServerFeeds
 pub mod SeenServerDeeds
 pub mod SeenServerRuns
+pub mod SeenTimes
+pub mod SeenFeedTimes

@@ -60,7 +60,7 @@ said_heard link id does.Stopped now given bs log took =
     record { bodies_are = took.bodies_are; place = took.place; start = took.start; greeted = took.greeted; read = took.read }
 said_heard link id (does.Faulty why) now given bs log took = took
 
-said_same : {A : Type 0} (f : EndState → A) → ((e : EndState) (a : Message) → f (said e a) ≡ f e) → (link : EndState) (id : ℤ) (h : Heard) → f (after_said link id h) ≡ f link
+pub said_same : {A : Type 0} (f : EndState → A) → ((e : EndState) (a : Message) → f (said e a) ≡ f e) → (link : EndState) (id : ℤ) (h : Heard) → f (after_said link id h) ≡ f link
 said_same f same link id does.Ignored = refl
 said_same f same link id (does.Answered a) = same link a
 said_same f same link id (does.Asked place v) = refl
@@ -91,16 +91,16 @@ unread_reading m false start body why is = by (header_in m body) is
     by None e = bad (fault_in m header_form body) e
     by (Some header) e = other (has_one header) e
 
-closed_reading : (old : EndState) (piece : List ℕ) (why : CloseCause) (new : EndState) → IsClosedBy old piece why new → IsReadingFault why
+pub closed_reading : (old : EndState) (piece : List ℕ) (why : CloseCause) (new : EndState) → IsClosedBy old piece why new → IsReadingFault why
 closed_reading old piece why new (inl (n, passes, is, same)) = subst IsReadingFault (sym is) tt
 closed_reading old piece why new (inr (body, used, ends, is, same)) = unread_reading old.max old.greeted old.start body why is
 
-fault_closed : (old : EndState) (piece : List ℕ) (why : CloseCause) (new : EndState) → IsClosedBy old piece why new → new.cause ≡ Some why
+pub fault_closed : (old : EndState) (piece : List ℕ) (why : CloseCause) (new : EndState) → IsClosedBy old piece why new → new.cause ≡ Some why
 fault_closed old piece why new (inl (n, passes, is, same)) = ap (λ (e : EndState). e.cause) same
 fault_closed old piece why new (inr (body, used, ends, is, same)) = ap (λ (e : EndState). e.cause) same
 
 -- what is told is an error only of a fault
-told_fault : (id : ℤ) (h : Heard) (why : CloseCause) → Err why ≡ told id h → h ≡ does.Faulty why
+pub told_fault : (id : ℤ) (h : Heard) (why : CloseCause) → Err why ≡ told id h → h ≡ does.Faulty why
 told_fault id does.Ignored why is = absurd cc
 told_fault id (does.Answered a) why is = absurd cc
 told_fault id (does.Asked place v) why is = absurd cc

@@ -51,33 +51,14 @@ module _ (given : List ℕ) (s : ServerState) where
   own_shows (Some (cause.Late last now)) own calm = calm
   own_shows (Some cause.EndOfInput) own calm = calm
   own_shows (Some cause.ClosedHere) own calm = calm
-  own_shows (Some (cause.BadFrame at)) own calm = absurd own
-  own_shows (Some (cause.BadHeader why)) own calm = absurd own
-  own_shows (Some cause.NoCommonProtocol) own calm = absurd own
-  own_shows (Some (cause.BadMessage why)) own calm = absurd own
-  own_shows (Some (cause.UnknownId id)) own calm = absurd own
-  own_shows (Some (cause.BadStreamData id why)) own calm = absurd own
-  own_shows (Some (cause.DuplicateQuery id)) own calm = absurd own
-  own_shows (Some (cause.TooManyOpen count)) own calm = absurd own
-  own_shows (Some cause.LinkFault) own calm = absurd own
-  own_shows (Some (cause.JournalFull got)) own calm = absurd own
-  own_shows (Some cause.OutOfMemory) own calm = absurd own
+  own_shows (Some _) own calm = absurd own
 
   reading_shows : (why : CloseCause) → IsReadingFault why → cause_of s.rules.limits.max_message [] given ≡ Some why → ServerCauseShows s given (Some why)
   reading_shows (cause.BadFrame at) reading is = is
   reading_shows (cause.BadHeader why) reading is = is
   reading_shows cause.NoCommonProtocol reading is = is
   reading_shows (cause.BadMessage why) reading is = is
-  reading_shows (cause.UnknownId id) reading is = absurd reading
-  reading_shows (cause.BadStreamData id why) reading is = absurd reading
-  reading_shows (cause.DuplicateQuery id) reading is = absurd reading
-  reading_shows (cause.TooManyOpen count) reading is = absurd reading
-  reading_shows (cause.Late last now) reading is = absurd reading
-  reading_shows cause.EndOfInput reading is = absurd reading
-  reading_shows cause.ClosedHere reading is = absurd reading
-  reading_shows cause.LinkFault reading is = absurd reading
-  reading_shows (cause.JournalFull got) reading is = absurd reading
-  reading_shows cause.OutOfMemory reading is = absurd reading
+  reading_shows _ reading is = absurd reading
 
   stops_show : (why : CloseCause) → StopsFor s.rules.limits given why → ServerCauseShows s given (Some why)
   stops_show why (AtReading reading fault) = reading_shows why reading fault

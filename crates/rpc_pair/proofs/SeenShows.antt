@@ -41,17 +41,7 @@ module _ (given : List ℕ) (b : BookState) (few : b.limits.max_message < 256 ^ 
   own_shows (Some (cause.Late last now)) own got none = (got, none)
   own_shows (Some cause.EndOfInput) own got none = (got, none)
   own_shows (Some cause.ClosedHere) own got none = (got, none)
-  own_shows (Some (cause.BadFrame at)) own got none = absurd own
-  own_shows (Some (cause.BadHeader why)) own got none = absurd own
-  own_shows (Some cause.NoCommonProtocol) own got none = absurd own
-  own_shows (Some (cause.BadMessage why)) own got none = absurd own
-  own_shows (Some (cause.UnknownId id)) own got none = absurd own
-  own_shows (Some (cause.BadStreamData id why)) own got none = absurd own
-  own_shows (Some (cause.DuplicateQuery id)) own got none = absurd own
-  own_shows (Some (cause.TooManyOpen count)) own got none = absurd own
-  own_shows (Some cause.LinkFault) own got none = absurd own
-  own_shows (Some (cause.JournalFull count)) own got none = absurd own
-  own_shows (Some cause.OutOfMemory) own got none = absurd own
+  own_shows (Some _) own got none = absurd own
 
   all_shows : TookAll given b → IsOwnCause b.link.cause → BookShows given b
   all_shows all own =
@@ -74,14 +64,7 @@ module _ (given : List ℕ) (b : BookState) (few : b.limits.max_message < 256 ^ 
   fault_shows (cause.BadMessage why) fault is = is
   fault_shows (cause.UnknownId id) fault is = is
   fault_shows (cause.BadStreamData id why) fault is = is
-  fault_shows (cause.DuplicateQuery id) fault is = absurd fault
-  fault_shows (cause.TooManyOpen count) fault is = absurd fault
-  fault_shows (cause.Late last now) fault is = absurd fault
-  fault_shows cause.EndOfInput fault is = absurd fault
-  fault_shows cause.ClosedHere fault is = absurd fault
-  fault_shows cause.LinkFault fault is = absurd fault
-  fault_shows (cause.JournalFull got) fault is = absurd fault
-  fault_shows cause.OutOfMemory fault is = absurd fault
+  fault_shows _ fault is = absurd fault
 
   stop_shows : (why : CloseCause) → TookFault given b why → BookShows given b
   stop_shows why stops =

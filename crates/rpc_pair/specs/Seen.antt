@@ -1,5 +1,5 @@
 -- What is seen of both ends, by all bytes that the wires gave, honest or not.
-use Rattle.std.specs.Prelude.{◌≡◌, ℕ, ◌+◌, ◌<◌, ◌≤◌, ℤ, Bool, true, false, List, [], ◌++◌, length, Option, Some, None}
+use Rattle.std.specs.Prelude.{◌≡◌, ℕ, ◌+◌, ◌-◌, ◌<◌, ◌≤◌, ℤ, Bool, true, false, List, [], ◌∷◌, ◌++◌, length, Option, Some, None, ◌⊎◌}
 use Rattle.std.specs.List.{count_by}
 use Rattle.std.specs.Ordering.{int_eq}
 use Rattle.readers.specs.Reader.{Each, IsByte}
@@ -7,7 +7,10 @@ use Rattle.rpc_msg.specs.declared.message.Message.{Message}
 use Rattle.rpc_msg.specs.declared.message.Message.TheVariants as message
 use Rattle.rpc_msg.specs.declared.shared.CloseCause.{CloseCause}
 use Rattle.rpc_msg.specs.declared.shared.CloseCause.TheVariants as cause
+use Rattle.rpc_msg.specs.declared.shared.Limits.{Limits}
 use Rattle.rpc_msg.specs.declared.shared.Part.{Part}
+use Rattle.rpc_schedule.specs.declared.event.Event.{Event}
+use Rattle.rpc_schedule.specs.declared.event.Event.TheVariants as ev
 use Rattle.rpc_log.specs.Logs.{log_of}
 use Rattle.rpc_talk.specs.Causes.{cause_of}
 use Rattle.rpc_talk.specs.Parts.{Held}
@@ -17,6 +20,7 @@ use Rattle.rpc_book.specs.Books.{BookState, Booked, call_of, calls_of, held_in}
 use Rattle.rpc_book.specs.Feeds.{journal_limit}
 use Rattle.rpc_meeting.specs.Worlds.{header_size}
 use Rattle.rpc_server.specs.Servers.{ServerState}
+use Rattle.rpc_pair.specs.Pairs.{PairState}
 use Rattle.rpc_pair.specs.Played.{Turn, all_down, all_down_put, all_up, all_up_put}
 use Rattle.rpc_pair.specs.declared.moved.Moved.{Moved}
 
@@ -128,6 +132,30 @@ ServerCauseShows s given (Some cause.OutOfMemory) = ⊥
 pub record ServerShows (given : List ℕ) (s : ServerState) : Type 0 where
   pub bytes : Each IsByte given
   pub cause : ServerCauseShows s given s.link.cause
+
+-- ---- events and moments
+
+abbrev pub HasEvent : Event → List Turn → Type 0
+HasEvent e [] = ⊥
+HasEvent e (t ∷ turns) = (t.lined.event ≡ e) ⊎ HasEvent e turns
+
+-- the start, or the moment of an event
+abbrev pub IsMomentOf : (Event → Type 0) → ℕ → Type 0
+IsMomentOf Happens n = (n ≡ 0) ⊎ Happens (ev.At n)
+
+-- What happens closes an end: an event that says so, or that the other end was silent for too long between two moments. Other causes are told
+-- by the bytes.
+abbrev pub IsCausedBy : (Event → Type 0) → Event → Event → ℕ → Option CloseCause → Type 0
+IsCausedBy Happens close eof timeout (Some (cause.Late last now)) =
+    IsMomentOf Happens last × IsMomentOf Happens now × (timeout < now - last)
+IsCausedBy Happens close eof timeout (Some cause.EndOfInput) = Happens eof
+IsCausedBy Happens close eof timeout (Some cause.ClosedHere) = Happens close
+IsCausedBy Happens close eof timeout _ = Unit {0}
+
+-- what happened in a run closed its ends
+pub record AreCausedBy (turns : List Turn) (limits : Limits) (p : PairState) : Type 0 where
+  pub client : IsCausedBy (λ e. HasEvent e turns) ev.CloseClient ev.EofClient limits.beat_timeout p.book.link.cause
+  pub server : IsCausedBy (λ e. HasEvent e turns) ev.CloseServer ev.EofServer limits.beat_timeout p.server.link.cause
 
 -- ---- counts
 
