@@ -89,3 +89,4 @@ pub mod SeenServerDeeds
 pub mod SeenServerRuns
 pub mod SeenTimes
 pub mod SeenFeedTimes
+pub mod SeenHappens

@@ -57,7 +57,7 @@ module _ (Happens : Event → Type 0) (close eof : Event) (timeout : ℕ) where
   fault_caused _ fault = tt
 
   -- the greater of two moments is one
-  greater : (a b : ℕ) → IsMomentOf Happens a → IsMomentOf Happens b → IsMomentOf Happens (max a b)
+  pub greater : (a b : ℕ) → IsMomentOf Happens a → IsMomentOf Happens b → IsMomentOf Happens (max a b)
   greater a b one two = by (nat_le a b) refl
     where
       by : (c : Bool) → nat_le a b ≡ c → IsMomentOf Happens (max a b)
