@@ -90,3 +90,4 @@ pub mod SeenServerRuns
 pub mod SeenTimes
 pub mod SeenFeedTimes
 pub mod SeenHappens
+pub mod SeenAll

@@ -1,5 +1,5 @@
 -- A run of turns counts what was put to the wires and what they gave.
-use Rattle.std.proofs.Common.{◌≡◌, refl, sym, ap, ◌∙◌, subst, ℕ, ◌+◌, List, [], ◌∷◌, ◌++◌, length, arith}
+use Rattle.std.proofs.Common.{◌≡◌, sym, ap, ◌∙◌, subst, ℕ, ◌+◌, List, [], ◌∷◌, ◌++◌, length, arith}
 use Rattle.std.proofs.lemmas.List.{length-append}
 use Rattle.rpc_msg.specs.declared.shared.Limits.{Limits}
 use Rattle.rpc_schedule.specs.declared.event.Event.{Event}

@@ -1,7 +1,6 @@
 -- A feed keeps the moments of an end, and that what closes it happened.
-use Rattle.std.proofs.Common.{◌≡◌, refl, sym, ap, ◌∙◌, subst, ℕ, ℤ, List, [], ◌++◌, inl, inr, ◌⊎◌}
+use Rattle.std.proofs.Common.{◌≡◌, refl, sym, ap, ◌∙◌, subst, ℕ, List, inl, inr, ◌⊎◌}
 use Rattle.std.specs.Prelude.{Option, Some, None, Result, Ok, Err}
-use Rattle.readers.specs.Reader.{Each, IsByte}
 use Rattle.rpc_msg.specs.Beats.{BeatState, heard_at}
 use Rattle.rpc_msg.specs.declared.message.Message.{Message}
 use Rattle.rpc_msg.specs.declared.message.Message.TheVariants as message
@@ -11,15 +10,14 @@ use Rattle.rpc_msg.specs.declared.shared.FeedError.TheVariants as feed
 use Rattle.rpc_msg.specs.declared.shared.FeedError.{FeedError}
 use Rattle.rpc_schedule.specs.declared.event.Event.{Event}
 use Rattle.rpc_end.specs.Ends.{EndState, heard, shut_by}
-use Rattle.rpc_end.specs.Taking.{GivesMessage, IsClosedBy, IsNextOf}
+use Rattle.rpc_end.specs.Taking.{GivesMessage, IsNextOf}
 use Rattle.rpc_end.specs.declared.end.Got.{Got}
 use Rattle.rpc_end.specs.declared.end.Next.{Next}
 use Rattle.rpc_end.specs.declared.end.Next.TheVariants as next
 use Rattle.rpc_client.specs.Clients.{answering, closed_for}
-use Rattle.rpc_server.specs.Servers.{Does, DoesAsTaken, ServerState, after_said, query_heard}
+use Rattle.rpc_server.specs.Servers.{Does, DoesAsTaken, ServerState, query_heard}
 use Rattle.rpc_server.specs.Tables.{standing, unfinished}
 use Rattle.rpc_server.specs.declared.arrival.Arrival.{Arrival}
-use Rattle.rpc_server.specs.declared.arrival.ServerFed.{ServerFed}
 use Rattle.rpc_book.specs.Books.{BookState, calls_of}
 use Rattle.rpc_book.specs.Feeds.{FeedCloses, HearsMessage, PassesFault, PassesPart, closes_for, own_answer}
 use Rattle.rpc_pair.specs.Feeds.{BookCloses, BookTakes, ServerCloses, ServerTakes}
@@ -30,7 +28,7 @@ use Rattle.rpc_pair.proofs.SeenPieces.{Kept}
 use Rattle.rpc_pair.proofs.SeenQueries.{IsQueryFault, query_fault}
 use Rattle.rpc_pair.proofs.SeenServerFeeds.{closed_reading, fault_closed, said_same, told_fault}
 use Rattle.rpc_pair.proofs.SeenServes.{IsReadingFault}
-use Rattle.rpc_pair.proofs.SeenTimes.{BeatGoes, Caused, IsTimed, closed_beat, fault_caused, message_beat, part_beat, timed_goes, timed_same, timed_shut}
+use Rattle.rpc_pair.proofs.SeenTimes.{BeatGoes, Caused, IsTimed, closed_beat, fault_caused, message_beat, part_beat, timed_goes, timed_shut}
 use Rattle.rpc_pair.proofs.ServerFeeds.{part_same}
 
 -- ---- a book

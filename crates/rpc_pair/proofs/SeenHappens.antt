@@ -1,10 +1,8 @@
 -- What closes the ends in a run of turns happened in it.
-use Rattle.std.proofs.Common.{◌≡◌, refl, sym, ap, ◌∙◌, subst, ℕ, ℤ, max, List, [], ◌∷◌, length, inl, inr, ◌⊎◌}
+use Rattle.std.proofs.Common.{◌≡◌, refl, sym, ap, subst, ℕ, ℤ, max, List, [], ◌∷◌, inl, inr}
 use Rattle.std.specs.Prelude.{Option, Some, None, Result, Ok, Err}
 use Rattle.readers.specs.Reader.{Each}
 use Rattle.bp_value.specs.declared.value.Value.{Value}
-use Rattle.rpc_msg.specs.Beats.{BeatState}
-use Rattle.rpc_msg.specs.declared.shared.CloseCause.{CloseCause}
 use Rattle.rpc_msg.specs.declared.shared.Limits.{Limits}
 use Rattle.rpc_msg.specs.declared.shared.Ticket.{Ticket}
 use Rattle.rpc_schedule.specs.declared.event.Event.{Event}
@@ -12,13 +10,13 @@ use Rattle.rpc_schedule.specs.declared.event.Event.TheVariants as ev
 use Rattle.rpc_schema.specs.declared.desc.Entry.{Entry}
 use Rattle.rpc_schema.specs.declared.desc.RpcDesc.{RpcDesc}
 use Rattle.rpc_talk.specs.Acts.{Act}
-use Rattle.rpc_end.specs.Ends.{EndState, first_end, taken_out}
+use Rattle.rpc_end.specs.Ends.{EndState, first_end}
 use Rattle.rpc_client.specs.declared.error.AbortError.{AbortError}
 use Rattle.rpc_client.specs.declared.error.DispatchError.{DispatchError}
 use Rattle.rpc_meeting.specs.declared.answer.StepAnswer.{StepAnswer}
 use Rattle.rpc_meeting.specs.Deeds.{Deed, Refuse, Call, Abort, Tell, MoveUp, MoveDown, Tick, CloseClient, CloseServer, Reveal}
 use Rattle.rpc_meeting.specs.Steps.{moved_bytes}
-use Rattle.rpc_meeting.specs.Worlds.{ClosedHere, EndOfInput, Reason}
+use Rattle.rpc_meeting.specs.Worlds.{Reason}
 use Rattle.rpc_book.specs.Books.{BookState, Booked, find_booked}
 use Rattle.rpc_book.specs.Calls.{Aborts, IsAbortedAt, IsBooked}
 use Rattle.rpc_server.specs.Acting.{ActsBy, IsActRefused, IsActed, RespondsTo, act_refusal}

@@ -1,5 +1,5 @@
 -- What a movement makes of a book, by all bytes that came to it.
-use Rattle.std.proofs.Common.{◌≡◌, refl, sym, ◌∙◌, subst, ℕ, false, List, [], ◌++◌, take, append_assoc, inl}
+use Rattle.std.proofs.Common.{◌≡◌, refl, sym, ◌∙◌, subst, ℕ, List, [], ◌++◌, append_assoc, inl}
 use Rattle.std.specs.Prelude.{None}
 use Rattle.std.proofs.lemmas.List.{append-nil}
 use Rattle.readers.specs.Reader.{Each, IsByte}

@@ -1,5 +1,5 @@
 -- Which queries a server is closed by, and what the others leave of those that are open.
-use Rattle.std.proofs.Common.{◌≡◌, refl, sym, ap, ◌∙◌, subst, ℕ, ◌+◌, ◌≤◌, ◌<◌, ℤ, Bool, true, false, ◌&&◌, nat_le, if◌then◌else◌, List, [], ◌∷◌, ◌++◌, arith, inl, inr, ◌⊎◌}
+use Rattle.std.proofs.Common.{◌≡◌, refl, sym, ap, ◌∙◌, subst, ℕ, ◌+◌, ◌≤◌, ℤ, Bool, true, false, nat_le, if◌then◌else◌, List, [], ◌∷◌, ◌++◌, arith, inl, inr, ◌⊎◌}
 use Rattle.std.specs.Prelude.{Option, Some, None, slice_get}
 use Rattle.std.specs.List.{count_by}
 use Rattle.std.specs.Ordering.{int_eq}
@@ -16,7 +16,7 @@ use Rattle.rpc_schema.specs.declared.desc.Entry.{Entry}
 use Rattle.rpc_talk.specs.Acts.{Owner, Menu, Nobody, Line, owner}
 use Rattle.rpc_talk.specs.Asks.{Asks, Calls, Aborts, Unclear, asks_in, asks_menu}
 use Rattle.rpc_talk.specs.Parts.{is_tracked}
-use Rattle.rpc_server.specs.Hearing.{aborts_some, heard_asks, heard_by, heard_call, heard_menu, heard_new, heard_open, heard_query, heard_some}
+use Rattle.rpc_server.specs.Hearing.{aborts_some, heard_asks, heard_by, heard_call, heard_menu, heard_open, heard_query, heard_some}
 use Rattle.rpc_server.specs.Rules.{Rules}
 use Rattle.rpc_server.specs.Tables.{IsPut, is_to_answer, open_count, standing, unfinished}
 use Rattle.rpc_server.specs.declared.hearing.Heard.{Heard}

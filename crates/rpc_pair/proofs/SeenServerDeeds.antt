@@ -1,8 +1,8 @@
 -- What a deed makes of a server, by all bytes that came to it.
-use Rattle.std.proofs.Common.{◌≡◌, refl, sym, ap, ◌∙◌, subst, ℕ, ◌^◌, ◌≤◌, ℤ, max, Bool, true, false, if◌then◌else◌, List, [], ◌++◌, arith, inl, inr, ◌⊎◌}
+use Rattle.std.proofs.Common.{◌≡◌, refl, sym, ap, ◌∙◌, subst, ℕ, ◌^◌, ◌≤◌, ℤ, max, Bool, true, false, if◌then◌else◌, List, [], ◌++◌, arith, inl, inr}
 use Rattle.std.specs.Prelude.{Option, Some, None, Result, Ok, Err}
 use Rattle.std.proofs.lemmas.List.{append-nil}
-use Rattle.rpc_msg.specs.Beats.{BeatState, after_beat, beat_of}
+use Rattle.rpc_msg.specs.Beats.{after_beat, beat_of}
 use Rattle.rpc_msg.specs.declared.beat.BeatAct.{BeatAct}
 use Rattle.rpc_msg.specs.declared.beat.BeatAct.TheVariants as beat
 use Rattle.rpc_msg.specs.declared.message.Message.{Message}
@@ -17,7 +17,7 @@ use Rattle.rpc_client.proofs.Dispatches.{said_taken}
 use Rattle.rpc_meeting.specs.declared.answer.StepAnswer.{StepAnswer}
 use Rattle.rpc_meeting.specs.Deeds.{Deed, Refuse, Call, Abort, Tell, MoveUp, MoveDown, Tick, CloseClient, CloseServer, Reveal}
 use Rattle.rpc_meeting.specs.Steps.{moved_bytes}
-use Rattle.rpc_server.specs.Acting.{ActsBy, HasActed, IsActRefused, IsActed, RespondsTo, act_refusal, answer_to, place_at, stands_behind}
+use Rattle.rpc_server.specs.Acting.{ActsBy, IsActRefused, IsActed, RespondsTo, act_refusal, answer_to, place_at, stands_behind}
 use Rattle.rpc_server.specs.Rules.{Rules}
 use Rattle.rpc_server.specs.Servers.{ServerState, with_end}
 use Rattle.rpc_server.specs.Tables.{open_count, place_in_schema, standing}
@@ -32,7 +32,7 @@ use Rattle.rpc_pair.proofs.SeenEnds.{ClosesFor, TickCloses, shut_cause, tick_cau
 use Rattle.rpc_pair.proofs.SeenPieces.{Kept, move_kept}
 use Rattle.rpc_pair.proofs.SeenQueries.{AreAsked, act_asked, few_open}
 use Rattle.rpc_pair.proofs.SeenServerFeeds.{closes_serves, takes_serves}
-use Rattle.rpc_pair.proofs.SeenServes.{Serves, ServesAll, ServesNone, StopsFor, open_serves}
+use Rattle.rpc_pair.proofs.SeenServes.{Serves, ServesAll, StopsFor, open_serves}
 use Rattle.rpc_pair.proofs.SeenSources.{IsSourceOf}
 use Rattle.rpc_pair.proofs.SeenTook.{IsOwnCause, going_open}
 use Rattle.rpc_pair.proofs.StillTaken.{out_taken, shut_taken, tick_taken}

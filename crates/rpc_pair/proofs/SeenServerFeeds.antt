@@ -1,9 +1,8 @@
 -- What a feed makes of a server, by all bytes that came to it.
-use Rattle.std.proofs.Common.{◌≡◌, refl, sym, ap, ◌∙◌, subst, ℕ, ◌+◌, ◌^◌, ◌<◌, ◌≤◌, ℤ, pos, Bool, true, false, if◌then◌else◌, List, [], ◌∷◌, ◌++◌, take, drop, append_assoc, arith, inl, inr, ◌⊎◌}
+use Rattle.std.proofs.Common.{◌≡◌, refl, sym, ap, ◌∙◌, subst, ℕ, ◌+◌, ◌^◌, ◌<◌, ◌≤◌, ℤ, pos, Bool, true, false, if◌then◌else◌, List, [], ◌∷◌, ◌++◌, take, drop, append_assoc, arith, inl, inr}
 use Rattle.std.specs.Prelude.{Option, Some, None, Result, Ok, Err}
 use Rattle.std.specs.List.{count_by}
 use Rattle.std.specs.Option.{option_map}
-use Rattle.std.specs.Ordering.{int_eq}
 use Rattle.std.proofs.lemmas.Bool.Decides.{Decides-int_eq}
 use Rattle.std.proofs.lemmas.List.{take-append-drop}
 use Rattle.readers.specs.Reader.{Each, IsByte}
@@ -12,7 +11,6 @@ use Rattle.rpc_msg.specs.declared.fault.MsgFault.{MsgFault}
 use Rattle.rpc_msg.specs.declared.message.Header.{Header}
 use Rattle.rpc_msg.specs.declared.message.Message.{Message}
 use Rattle.rpc_msg.specs.declared.message.Message.TheVariants as message
-use Rattle.rpc_msg.specs.declared.message.Query.{Query}
 use Rattle.rpc_msg.specs.declared.message.Response.{Response}
 use Rattle.rpc_msg.specs.declared.shared.CloseCause.{CloseCause}
 use Rattle.rpc_msg.specs.declared.shared.CloseCause.TheVariants as cause
@@ -24,7 +22,7 @@ use Rattle.rpc_log.specs.Readings.{fault_in, has_one, header_in}
 use Rattle.rpc_talk.specs.Causes.{bad_header, bad_message, cause_of, header_cause, placed, unwelcome}
 use Rattle.rpc_talk.specs.Welcome.{is_welcome}
 use Rattle.rpc_talk.proofs.Accepting.{IsTaken, accepted_more}
-use Rattle.rpc_end.specs.Ends.{EndState, heard, holding, said, unread}
+use Rattle.rpc_end.specs.Ends.{EndState, heard, said}
 use Rattle.rpc_end.specs.Taken.{HasTaken}
 use Rattle.rpc_end.specs.Taking.{GivesMessage, IsClosedBy, IsNextOf, IsPartTaken}
 use Rattle.rpc_end.specs.declared.end.Got.{Got}
@@ -32,7 +30,7 @@ use Rattle.rpc_end.specs.declared.end.Next.{Next}
 use Rattle.rpc_end.specs.declared.end.Next.TheVariants as next
 use Rattle.rpc_end.proofs.Taken.{closed_cause, limit_few, taken_message, taken_part, unwelcome_cause}
 use Rattle.rpc_client.proofs.Dispatches.{taken_log}
-use Rattle.rpc_server.specs.Servers.{Does, DoesAsTaken, IsServerFed, ServerState, after_heard, after_said, eof_to, query_heard, told, with_end}
+use Rattle.rpc_server.specs.Servers.{Does, DoesAsTaken, ServerState, after_heard, after_said, eof_to, query_heard, told, with_end}
 use Rattle.rpc_server.specs.Rules.{Rules}
 use Rattle.rpc_server.specs.Tables.{standing, unfinished}
 use Rattle.rpc_server.specs.declared.arrival.Arrival.{Arrival}
@@ -42,7 +40,7 @@ use Rattle.rpc_server.specs.declared.hearing.Heard.TheVariants as does
 use Rattle.rpc_pair.specs.Feeds.{ServerCloses, ServerTakes}
 use Rattle.rpc_pair.specs.Seen.{is_answered_as, is_asked, is_asked_as}
 use Rattle.rpc_pair.proofs.SeenQueries.{AreAsked, IsQueryFault, asked_still, count_push, put_asked, query_fault}
-use Rattle.rpc_pair.proofs.SeenServes.{AtAnswer, AtMany, AtReading, AtTwice, IsReadingFault, Serves, ServesAll, ServesNone, StopsFor, all_log, stops_grow}
+use Rattle.rpc_pair.proofs.SeenServes.{AtAnswer, AtMany, AtReading, AtTwice, IsReadingFault, Serves, ServesAll, StopsFor, stops_grow}
 use Rattle.rpc_pair.proofs.SeenTook.{no_cause}
 use Rattle.rpc_pair.proofs.ServerFeeds.{part_same}
 

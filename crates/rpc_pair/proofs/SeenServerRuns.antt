@@ -1,5 +1,5 @@
 -- A run of turns over any wires shows what they gave to the server.
-use Rattle.std.proofs.Common.{◌≡◌, refl, sym, ap, ◌∙◌, subst, ℕ, ◌^◌, ◌<◌, ◌≤◌, List, [], ◌∷◌, ◌++◌, length, append_assoc, arith, inl, inr}
+use Rattle.std.proofs.Common.{◌≡◌, refl, sym, ap, ◌∙◌, subst, ℕ, List, [], ◌∷◌, ◌++◌, length, append_assoc, arith, inl, inr}
 use Rattle.std.specs.Prelude.{Option, Some, None}
 use Rattle.readers.specs.Reader.{Each}
 use Rattle.rpc_msg.specs.Limits.{AreLimits}
@@ -26,7 +26,7 @@ use Rattle.rpc_pair.specs.Seen.{CameCalmly, IsNoAnswer, ServerCauseShows, Server
 use Rattle.rpc_pair.specs.Standing.{booked_menu}
 use Rattle.rpc_pair.proofs.SeenQueries.{none_asked}
 use Rattle.rpc_pair.proofs.SeenServerDeeds.{KeepsServing, ServedOn, deed_served, out_serves, served_none}
-use Rattle.rpc_pair.proofs.SeenServes.{AtAnswer, AtMany, AtReading, AtTwice, IsReadingFault, Serves, ServesAll, ServesNone, StopsFor, all_log}
+use Rattle.rpc_pair.proofs.SeenServes.{AtAnswer, AtMany, AtReading, AtTwice, IsReadingFault, Serves, ServesAll, StopsFor, all_log}
 use Rattle.rpc_pair.proofs.SeenSources.{deed_source}
 use Rattle.rpc_pair.proofs.SeenTook.{IsOwnCause}
 

@@ -1,10 +1,9 @@
 -- A server by all bytes that came to it: what it took of them, and why it stopped.
-use Rattle.std.proofs.Common.{◌≡◌, refl, sym, ap, ◌∙◌, subst, ℕ, ◌^◌, ◌<◌, ◌≤◌, ℤ, Bool, List, [], ◌++◌, arith, inl, inr, ◌⊎◌}
-use Rattle.std.specs.Prelude.{Option, Some, None}
+use Rattle.std.proofs.Common.{◌≡◌, sym, ap, ◌∙◌, ℕ, ◌^◌, ◌<◌, ◌≤◌, ℤ, Bool, List, [], ◌++◌, arith, inl, inr, ◌⊎◌}
+use Rattle.std.specs.Prelude.{Some, None}
 use Rattle.std.specs.List.{count_by}
 use Rattle.readers.specs.Reader.{Each, IsByte}
 use Rattle.rpc_msg.specs.declared.message.Message.{Message}
-use Rattle.rpc_msg.specs.declared.message.Message.TheVariants as message
 use Rattle.rpc_msg.specs.declared.shared.CloseCause.{CloseCause}
 use Rattle.rpc_msg.specs.declared.shared.CloseCause.TheVariants as cause
 use Rattle.rpc_msg.specs.declared.shared.Limits.{Limits}
@@ -13,7 +12,6 @@ use Rattle.rpc_log.proofs.Growing.{log_grows}
 use Rattle.rpc_talk.specs.Causes.{cause_of}
 use Rattle.rpc_talk.proofs.Accepting.{IsTaken}
 use Rattle.rpc_end.specs.Taken.{HasTaken}
-use Rattle.rpc_end.proofs.Taken.{limit_few}
 use Rattle.rpc_client.proofs.Dispatches.{taken_log}
 use Rattle.rpc_server.specs.Servers.{ServerState}
 use Rattle.rpc_pair.specs.Seen.{is_answered_as, is_asked, is_asked_as}

@@ -1,11 +1,10 @@
 -- The moments of an end are moments of a run, and what closes it there happened in it.
-use Rattle.std.proofs.Common.{◌≡◌, refl, sym, ap, ◌∙◌, subst, ℕ, ◌-◌, ◌≤◌, ◌<◌, max, Bool, true, false, nat_le, if◌then◌else◌, List, arith, inl, inr, ◌⊎◌}
+use Rattle.std.proofs.Common.{◌≡◌, refl, sym, ap, subst, ℕ, ◌-◌, ◌<◌, max, Bool, true, false, nat_le, if◌then◌else◌, List, arith, inl, inr, ◌⊎◌}
 use Rattle.std.specs.Prelude.{Option, Some, None}
 use Rattle.std.proofs.lemmas.Bool.{leb-false, leb-true}
 use Rattle.rpc_msg.specs.Beats.{BeatState, after_beat, beat_of, heard_at, moment}
 use Rattle.rpc_msg.specs.declared.beat.BeatAct.{BeatAct}
 use Rattle.rpc_msg.specs.declared.beat.BeatAct.TheVariants as act
-use Rattle.rpc_msg.specs.declared.message.Message.{Message}
 use Rattle.rpc_msg.specs.declared.shared.CloseCause.{CloseCause}
 use Rattle.rpc_msg.specs.declared.shared.CloseCause.TheVariants as cause
 use Rattle.rpc_schedule.specs.declared.event.Event.{Event}

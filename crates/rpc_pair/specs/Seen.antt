@@ -165,3 +165,14 @@ pub record AreCounted (turns : List Turn) (counts : Moved) : Type 0 where
   pub up_put : counts.up_put ≡ header_size + length (all_up_put turns)
   pub down : counts.down ≡ length (all_down turns)
   pub down_put : counts.down_put ≡ header_size + length (all_down_put turns)
+
+-- ---- a run
+
+-- what a pair of these limits shows behind turns that follow a start, whatever the wires gave in them
+pub record RunShows (limits : Limits) (turns : List Turn) (p : PairState) : Type 0 where
+  pub client : BookShows (all_down turns) p.book
+  pub client_limits : p.book.limits ≡ limits
+  pub server : ServerShows (all_up turns) p.server
+  pub server_limits : p.server.rules.limits ≡ limits
+  pub causes : AreCausedBy turns limits p
+  pub counts : AreCounted turns p.moved
