@@ -90,7 +90,7 @@ module _ (given : List ℕ) (b : BookState) (took : Took given b) where
       let m = b.limits.max_message in
       let calm : fault_of new ≡ None
       = ap (λ (x : BookState). cause_of x.limits.max_message (calls_of new.made) x.got) is
-          ∙ (ap (λ cs. cause_of m cs b.got) calls ∙ calm_more m (calls_of b.made) (call_of made ∷ []) b.got all.calm) in
+      ∙ (ap (λ cs. cause_of m cs b.got) calls ∙ calm_more m (calls_of b.made) (call_of made ∷ []) b.got all.calm) in
       let going : new.link.cause ≡ None = ap (λ (x : BookState). x.link.cause) is ∙ open_ in
       (inl (record { all = all.all ∙ sym (ap (λ (x : BookState). x.got) is); calm = calm }, subst IsOwnCause (sym going) tt), ap (λ (x : BookState). x.limits) is)
 

@@ -102,8 +102,7 @@ module _ (m : ℕ) (calls more : List Call) (end : Option CloseCause) where
           welcome : (b : Bool) → is_welcome m calls before a ≡ b → (if b then cause_behind m calls end before start body bs a else unwelcome m calls before a) ≡ None
               → (body_cause m (calls ++ more) end before start body bs (Some a) ≡ None) × IsTaken m calls before (a ∷ messages_in m bs)
           welcome true is f =
-              let (cause_is, log_is) = next (before ++ a ∷ []) (start + 8 + length body) f in
-              (
+              let (cause_is, log_is) = next (before ++ a ∷ []) (start + 8 + length body) f in (
                 ap (λ b. if b then cause_behind m (calls ++ more) end before start body bs a else unwelcome m (calls ++ more) before a) (welcome_more m calls more before a is)
                     ∙ cause_is,
                 ap (λ b. if b then accepted_with m calls before bs a else []) is ∙ ap (λ xs. a ∷ xs) log_is,
@@ -148,8 +147,7 @@ module _ (m : ℕ) (few : m < 256 ^ 8) (calls : List Call) (s x : List ℕ) (byt
           let (cause_is, log_is) = in_stays m calls (frame_cause m (s ++ x)) why later (bodies m s) (ap (λ o. cause_in o m calls (bodies m s)) (sym none) ∙ fault) in
           (ap (cause_in (frame_cause m (s ++ x)) m calls) same ∙ cause_is, ap (λ bs. accepted m calls (log_in m bs)) same ∙ log_is)
       by (Some at) found =
-          let (place, same) = frame_stays m few s x bytes at found in
-          (
+          let (place, same) = frame_stays m few s x bytes at found in (
             ap (λ o. cause_in o m calls (bodies m (s ++ x))) (place ∙ sym found) ∙ (ap (cause_in (frame_cause m s) m calls) same ∙ fault),
             ap (λ bs. accepted m calls (log_in m bs)) same,
           )

@@ -72,8 +72,7 @@ module _ (m : ℕ) (few : m < 256 ^ 8) (s x : List ℕ) (bytes : Each IsByte (s 
       let place : length (s ++ x) - left ≡ length s - n
       = omega (arith, sum, total, length-append s x, length-append has.rest x, ap length has.whole, length-append before has.rest) in
       let rest : behind_frames m (s ++ x) ≡ has.rest ++ x
-      = ap (λ bs. drop (length (frames bs)) (s ++ x)) same ∙ (ap (drop (length before)) longer ∙ drop_front before (has.rest ++ x)) in
-      (
+      = ap (λ bs. drop (length (frames bs)) (s ++ x)) same ∙ (ap (drop (length before)) longer ∙ drop_front before (has.rest ++ x)) in (
         ap (λ t. place_cause (length (s ++ x)) (frame_at m t)) rest
             ∙ (ap (place_cause (length (s ++ x))) stops ∙ (ap (λ i. Some (cause.BadFrame (stream_place i))) place ∙ is)),
         same,

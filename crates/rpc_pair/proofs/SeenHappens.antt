@@ -145,7 +145,7 @@ module _ (Happens : Event → Type 0) (timeout : ℕ) where
       same_timed : (new : PairState) → new ≡ old → AreTimed new
       same_timed new same = subst AreTimed (sym same) timed
 
-      deed_timed : (deed : Deed) (up down : Came) (answer : StepAnswer) (new : PairState) → IsSourceOf e deed → DoesOver deed old up down answer new → AreTimed new
+      pub deed_timed : (deed : Deed) (up down : Came) (answer : StepAnswer) (new : PairState) → IsSourceOf e deed → DoesOver deed old up down answer new → AreTimed new
       deed_timed (Refuse why) up down answer new source (no_up, no_down, (refused_for, same)) = same_timed new same
       deed_timed (Call label d v) up down answer new source (no_up, no_down, (book, answers, same)) =
           subst AreTimed (sym same)

@@ -98,16 +98,19 @@ first_serves : (entries : List Entry) (limits : Limits) (s : ServerState) → Ar
 first_serves entries limits s are new =
     let max : s.link.max ≡ limits.max_message = ap (λ (e : EndState). e.max) new.link_is in
     let most = are.message.1 in
-    inl (record {
-      max = max ∙ sym (ap (λ (l : Limits). l.max_message) new.limits_are);
-      limit = omega (arith, max, most);
-      bytes = tt;
-      bodies = [];
-      log = [];
-      took = subst (λ e. HasTaken e [] [] []) (sym new.link_is) (taken_start limits 0);
-      quiet = refl;
-      asked = none_asked s.table new.table_is;
-    }, subst IsOwnCause (sym (ap (λ (e : EndState). e.cause) new.link_is)) tt)
+    inl (
+      record {
+        max = max ∙ sym (ap (λ (l : Limits). l.max_message) new.limits_are);
+        limit = omega (arith, max, most);
+        bytes = tt;
+        bodies = [];
+        log = [];
+        took = subst (λ e. HasTaken e [] [] []) (sym new.link_is) (taken_start limits 0);
+        quiet = refl;
+        asked = none_asked s.table new.table_is;
+      },
+      subst IsOwnCause (sym (ap (λ (e : EndState). e.cause) new.link_is)) tt,
+    )
 
 -- Where turns follow a start, the server shows why all bytes that came up closed it, if they did.
 pub server_shows : (entries : List Entry) (limits : Limits) (p : PairState) (turns : List Turn) (new : PairState) → AreLimits limits → IsNewPair entries limits p

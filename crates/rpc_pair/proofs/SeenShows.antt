@@ -93,7 +93,7 @@ module _ (given : List ℕ) (b : BookState) (few : b.limits.max_message < 256 ^ 
       let before = responses_of id (accepted m (calls_of b.made) (log_of m b.got)) in
       let answers : responses_of id (accepted m (calls_of b.made) (log_of m given)) ≡ before ++ responses_of id later
       = ap (λ s. responses_of id (accepted m (calls_of b.made) (log_of m s))) full.front
-          ∙ (ap (responses_of id) grown ∙ filter_map-append (response_for id) (accepted m (calls_of b.made) (log_of m b.got)) later) in
+      ∙ (ap (responses_of id) grown ∙ filter_map-append (response_for id) (accepted m (calls_of b.made) (log_of m b.got)) later) in
       subst (λ answers. AreFirstOf (held_in b d).parts (cut_parts d.made.cut (parts_of m d.made.desc answers).parts)) (sym answers)
       (cut_front d.made.cut (parts_of m d.made.desc before).parts (parts_of m d.made.desc (before ++ responses_of id later)).parts
       (parts_front m d.made.desc (responses_of id later) before))
