@@ -10,7 +10,7 @@ use Rattle.rpc_meeting.specs.Deeds.{Deed, Refuse, Call, Abort, Tell, MoveUp, Mov
 use Rattle.rpc_book.specs.Books.{BookState}
 use Rattle.rpc_pair.specs.Pairs.{Came, DoesOver, IsNewPair, IsTurn, PairState, Traffic, all_put, nothing}
 use Rattle.rpc_pair.specs.Played.{AreTurns, Turn, all_down, all_down_put, all_up, all_up_put}
-use Rattle.rpc_pair.specs.Seen.{AreCounted}
+use Rattle.rpc_pair.specs.Seen.{CountsShow}
 use Rattle.rpc_pair.specs.declared.moved.Moved.{Moved}
 
 -- these bytes more were put to each wire, and came from it
@@ -95,7 +95,7 @@ turns_count (t ∷ turns) old new (next, (behind, turn), later) =
 
 -- From a new pair on, all bytes are counted.
 pub counts_show : (entries : List Entry) (limits : Limits) (p : PairState) (turns : List Turn) (new : PairState) → IsNewPair entries limits p → AreTurns (all_put p) turns new
-    → AreCounted turns new.moved
+    → CountsShow turns new.moved
 counts_show entries limits p turns new fresh run =
     let all = turns_count turns (all_put p) new run in
     let book = ap (λ (b : BookState). length b.link.output) fresh.book in

@@ -160,7 +160,7 @@ pub record AreCausedBy (turns : List Turn) (limits : Limits) (p : PairState) : T
 -- ---- counts
 
 -- so many bytes were put to each wire behind its header, and so many came from it
-pub record AreCounted (turns : List Turn) (counts : Moved) : Type 0 where
+pub record CountsShow (turns : List Turn) (counts : Moved) : Type 0 where
   pub up : counts.up ≡ length (all_up turns)
   pub up_put : counts.up_put ≡ header_size + length (all_up_put turns)
   pub down : counts.down ≡ length (all_down turns)
@@ -175,4 +175,4 @@ pub record RunShows (limits : Limits) (turns : List Turn) (p : PairState) : Type
   pub server : ServerShows (all_up turns) p.server
   pub server_limits : p.server.rules.limits ≡ limits
   pub causes : AreCausedBy turns limits p
-  pub counts : AreCounted turns p.moved
+  pub counts : CountsShow turns p.moved
