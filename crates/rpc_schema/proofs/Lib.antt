@@ -8,3 +8,4 @@ pub mod Choices
 pub mod KeptLines
 pub mod ReadingSteps
 pub mod MenuValues
+pub mod EntryLines
