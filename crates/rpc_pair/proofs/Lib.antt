@@ -68,6 +68,7 @@ pub mod Pairing
 pub mod Overs
 pub mod Showing
 pub mod Movable
+pub mod Sights
 pub mod SeenFrames
 pub mod SeenFaults
 pub mod SeenParts

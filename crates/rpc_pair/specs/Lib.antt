@@ -16,4 +16,5 @@ pub mod Asked
 pub mod Tellings
 pub mod Wires
 pub mod Played
+pub mod Sights
 pub mod Seen

@@ -1,5 +1,6 @@
 -- What is seen of a pair of ends, and what an event does to it, whatever the wires give.
-use Rattle.std.specs.Prelude.{◌≡◌, ℕ, ℤ, ◌+◌, ◌-◌, ◌≤◌, max, Bool, false, List, [], length, Option, Some, None, option_copied}
+use Rattle.std.specs.Prelude.{◌≡◌, ℕ, ℤ, ◌+◌, ◌-◌, ◌≤◌, max, Bool, false, List, [], length, map, Option, Some, None, MatchOption, option_copied}
+use Rattle.std.specs.Borrow.{Bor}
 use Rattle.std.specs.List.{find}
 use Rattle.std.specs.Str.{bytes_eq}
 use Rattle.rpc_msg.specs.declared.shared.Limits.{Limits}
@@ -22,7 +23,8 @@ use Rattle.rpc_pair.specs.Callers.{aborted_as, dispatched_as}
 use Rattle.rpc_pair.specs.Feeds.{BookCloses, BookTakes, ServerCloses, ServerTakes}
 use Rattle.rpc_pair.specs.Kept.{most_piece}
 use Rattle.rpc_pair.specs.Links.{cause_as}
-use Rattle.rpc_pair.specs.Made.{dispatches_of}
+use Rattle.rpc_book.specs.declared.made.Made.{Made}
+use Rattle.rpc_pair.specs.Made.{dispatches_of, has_label}
 use Rattle.rpc_pair.specs.Moving.{IsMoved, TakesPiece}
 use Rattle.rpc_pair.specs.Standing.{booked_menu}
 use Rattle.rpc_pair.specs.Stands.{answer_as}
@@ -192,6 +194,10 @@ ShowsOf b (Some shown) (Some d) = (shown.parts.now ≡ (held_in b d).parts) × (
 
 abbrev pub ShowsLabel : BookState → List ℕ → Option Received → Type 0
 ShowsLabel b label shown = ShowsOf b shown (find (λ d. bytes_eq d.made.label label) b.made)
+
+-- the first dispatch that has a label; nothing where none has it
+abbrev pub HasMade : BookState → List ℕ → Option (Bor Made) → Type 0
+HasMade b label made = let found = find (has_label label) (map (λ d. d.made) b.made) in MatchOption made (found ≡ None) (λ d. found ≡ Some d.now)
 
 -- ---- events
 

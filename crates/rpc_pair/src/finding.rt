@@ -17,6 +17,8 @@ use std::alloc::Global;
 pub fn under<'a>(book: &'a Book, label: &[u8]) -> Option<&'a Made>
     ensures found { let found = find_label label.now (dispatches_of book.now) in
         MatchOption result (found ≡ None) (λ d. found ≡ Some (made_dispatch d.now)) }
+    ensures row { let found = find (has_label label.now) (map (λ d. d.made) book.now.made) in
+        MatchOption result (found ≡ None) (λ d. found ≡ Some d.now) }
     ensures own { Each IsKept book.now.made → IfSome result (λ d. IsOwn d.now.desc) }
     ensures sound { IsSound book.now }
 {
@@ -25,8 +27,10 @@ pub fn under<'a>(book: &'a Book, label: &[u8]) -> Option<&'a Made>
 
 // The dispatch that has the label.
 fn find<'a>(made: &'a [Made], label: &[u8]) -> Option<&'a Made>
-    ensures { let found = find_label label.now (map made_dispatch made.now) in
+    ensures found { let found = find_label label.now (map made_dispatch made.now) in
         MatchOption result (found ≡ None) (λ d. found ≡ Some (made_dispatch d.now)) }
+    ensures row { let found = find (has_label label.now) made.now in
+        MatchOption result (found ≡ None) (λ d. found ≡ Some d.now) }
 {
     labelled(made, label)
 }

@@ -2,7 +2,9 @@
 ghost use Rattle.std.specs.Prelude.{◌≡◌, ◌+◌, ◌≤◌, IfOk, IsErrOf, OnOk};
 ghost use Rattle.bp_base.specs.Faults.{BothGoOn, GoesOn};
 ghost use Rattle.rpc_meeting.specs.Steps.{moved_bytes};
-ghost use Rattle.rpc_pair.specs.Kept.{most_piece};
+ghost use Rattle.readers.specs.Reader.{Each};
+ghost use Rattle.rpc_book.specs.Books.{IsSound};
+ghost use Rattle.rpc_pair.specs.Kept.{most_piece, IsKept};
 ghost use Rattle.rpc_msg.specs.Limits.{AreLimits};
 ghost use Rattle.rpc_pair.specs.declared.error.PairError.TheVariants as error;
 
@@ -15,7 +17,7 @@ use crate::moved::Moved;
 use crate::put::put_out;
 use bp_base::Wire;
 use bp_value::OutOfMemory;
-use rpc_book::Book;
+use rpc_book::{Book, Made};
 use rpc_meeting::StepAnswer;
 use rpc_msg::{Limits, Received, Ticket};
 use rpc_schedule::Event;
@@ -65,7 +67,7 @@ impl Model for Pair {
 impl Pair {
     ghost use Rattle.rpc_meeting.specs.Talks.{Common};
     ghost use Rattle.rpc_meeting.specs.Worlds.{first_world, World};
-    ghost use Rattle.rpc_pair.specs.Pairs.{IsMovable, IsNewPair, ShowsLabel, StartsAs};
+    ghost use Rattle.rpc_pair.specs.Pairs.{HasMade, IsMovable, IsNewPair, ShowsLabel, StartsAs};
     ghost use Rattle.rpc_pair.specs.Wires.{ActsOver, IsHonestly, MovesDownOver, MovesUpOver, PutsOver, StandsOver, StartsOver, StepsTo, TurnsOver};
 
     /// A pair at the moment 0, whose ends have one schema and the same limits.
@@ -135,9 +137,18 @@ impl Pair {
         self.book.received(&Ticket { id: made.id })
     }
 
+    /// The dispatch of this label; nothing where none has it. No memory.
+    pub fn made(&self, label: &[u8]) -> Option<&Made>
+        ensures made { HasMade self.now.book label.now result }
+        ensures sound { IsSound self.now.book }
+    {
+        under(&self.book, label)
+    }
+
     /// The client, with its dispatches. No memory.
     pub fn book(&self) -> &Book
-        ensures { result.now ≡ self.now.book }
+        ensures book { result.now ≡ self.now.book }
+        ensures kept { Each IsKept self.now.book.made }
     {
         &self.book
     }
