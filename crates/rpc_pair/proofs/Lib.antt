@@ -68,3 +68,12 @@ pub mod Pairing
 pub mod Overs
 pub mod Showing
 pub mod Movable
+pub mod DrawnRounds
+pub mod NumberedLines
+pub mod MarkedElements
+pub mod AddedEvents
+pub mod BlockedRounds
+pub mod ShapeParts
+pub mod GeneratedSchema
+pub mod GoodRounds
+pub mod WholeSchedules

@@ -16,3 +16,4 @@ pub mod Asked
 pub mod Tellings
 pub mod Wires
 pub mod Played
+pub mod Generated
