@@ -9,6 +9,8 @@ mod blocks;
 mod calling;
 mod events;
 mod rounds;
+#[cfg(test)]
+mod tests;
 mod texts;
 
 use crate::generating::events::Events;
