@@ -30,11 +30,17 @@ impl Events {
     }
 
     /// Everything goes up and down.
-    pub fn add_moves(&mut self, by: u64) -> Result<(), OutOfMemory>
-        ensures { IfOk result (λ done. self.new ≡ self.old ++ run.all_moves by) }
+    pub fn add_moves(&mut self, piece: u64) -> Result<(), OutOfMemory>
+        ensures { IfOk result (λ done. self.new ≡ self.old ++ run.all_moves piece) }
     {
-        self.add(Event::Up { count: None, by })?;
-        self.add(Event::Down { count: None, by })
+        self.add(Event::Up {
+            count: None,
+            by: piece,
+        })?;
+        self.add(Event::Down {
+            count: None,
+            by: piece,
+        })
     }
 
     // The end of a block of these rounds.
