@@ -17,3 +17,4 @@ pub mod Tellings
 pub mod Wires
 pub mod Played
 pub mod Generated
+pub mod GenTexts
