@@ -92,3 +92,12 @@ pub mod SeenTimes
 pub mod SeenFeedTimes
 pub mod SeenHappens
 pub mod SeenAll
+pub mod DrawnRounds
+pub mod NumberedLines
+pub mod MarkedElements
+pub mod AddedEvents
+pub mod BlockedRounds
+pub mod ShapeParts
+pub mod GeneratedSchema
+pub mod GoodRounds
+pub mod WholeSchedules

@@ -18,3 +18,5 @@ pub mod Wires
 pub mod Played
 pub mod Sights
 pub mod Seen
+pub mod Generated
+pub mod GenTexts

@@ -5,6 +5,7 @@ mod asking;
 mod carry;
 mod error;
 mod finding;
+mod generating;
 mod menus;
 mod moved;
 mod pair;
@@ -16,6 +17,7 @@ mod tests;
 mod texts;
 
 pub use error::PairError;
+pub use generating::generate;
 pub use moved::Moved;
 pub use pair::Pair;
 pub use rpc_book::{Book, Made};
