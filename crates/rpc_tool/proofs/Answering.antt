@@ -3,8 +3,11 @@ use Rattle.std.proofs.Common.{arith, ◌≡◌, ◌<◌, ℕ, List, [], ◌∷�
 use Rattle.std.specs.Prelude.{Option, Some, None, String, ◌⊎◌, ◌↔◌, IfOk, IfSome, Result, Ok, Err}
 use Rattle.std.specs.declared.alloc.Global.{Global}
 use Rattle.std.proofs.lemmas.List.{take_all}
-use Rattle.rpc_world.specs.declared.schedule.Schedule.{Schedule}
-use Rattle.rpc_world.specs.Input.{IsInput}
+use Rattle.rpc_schedule.specs.declared.schedule.Schedule.{Schedule}
+use Rattle.rpc_schema.specs.TextLines.{text_lines}
+use Rattle.rpc_schedule.specs.declared.error.ScheduleError.{ScheduleError}
+use Rattle.rpc_schedule.specs.Schedules.{IsScheduleText, RefusesSchedule}
+use Rattle.rpc_tool.specs.ScheduleRefusals.{IsFault, schedule_refused}
 use Rattle.rpc_tool.specs.declared.command.Command.{Command}
 use Rattle.rpc_tool.specs.declared.command.Misuse.{Misuse}
 use Rattle.rpc_tool.specs.declared.command.Misuse.TheVariants as misuse
@@ -54,6 +57,15 @@ refused_said Reports named input Writes status text result answer may (inl answe
     answered_said Reports named input Writes status text result answer answered
 refused_said Reports named input Writes status text result answer may (inr memory) =
     subst (λ r. IsSaid Reports named input Writes r) (sym memory.0) (may, memory.1)
+
+-- the line about a schedule that is refused was written, or memory ran out before it was made
+pub schedule_said : (Reports : Schedule → List ℕ → Type 0) (input : List ℕ) (Writes : List ℕ → Type 0) (error : ScheduleError) (result : Status)
+    → RefusesSchedule (text_lines input) error → (IsFault error × IsAnswered Refused (schedule_refused error) Writes result) ⊎ ((result ≡ OutOfMemory) × Writes [])
+    → IsSaid Reports (Ok Replay) input Writes result
+schedule_said Reports input Writes error result refuses (inl (fault, answered)) =
+    answered_said Reports (Ok Replay) input Writes Refused (schedule_refused error) result (error, fault, refuses, refl) answered
+schedule_said Reports input Writes error result refuses (inr memory) =
+    subst (λ r. IsSaid Reports (Ok Replay) input Writes r) (sym memory.0) (tt, memory.1)
 
 -- what a command has made was written
 pub given_said : (Reports : Schedule → List ℕ → Type 0) (command : Command) (input : List ℕ) (Writes : List ℕ → Type 0)
@@ -191,7 +203,7 @@ module _ (Reports Other : Schedule → List ℕ → Type 0) (turn : (s : Schedul
       by None whole = tt
       by (Some text) whole = record {
         schedule = s;
-        spelled = subst (λ t. IsInput t s) whole spelled;
+        spelled = subst (IsScheduleText s) whole spelled;
         report = report;
         reported = turn s report reported;
         written = written;

@@ -7,7 +7,7 @@ use Rattle.std.proofs.lemmas.Slice.Zip.{all_zipped_more}
 use mir.Val.{SFits}
 use Rattle.bp_codec.proofs.Ranges.{number_back}
 use Rattle.rpc_schema.specs.SchemaLines.{SpellsVersion}
-use Rattle.rpc_tool.specs.Input.{texts}
+use Rattle.rpc_schema.specs.Reading.{slices}
 
 -- a version has 64 bits
 pub version_back : (version : ℤ) (word : List ℕ) → SpellsVersion version word → to_z w64 (of_z w64 version) ≡ version
@@ -25,20 +25,20 @@ none_at (w ∷ ws) zero default lt none (v ∷ own) all = none v all.0
 none_at (w ∷ ws) (suc i) default lt none (v ∷ own) all = none_at ws i default (omega (arith, lt)) none own all.1
 
 module _ (parts : List (Bor (List ℕ))) (i : ℕ) (default : Bor (List ℕ)) (lt : i < length parts) where
-  within : i < length (texts parts)
+  within : i < length (slices parts)
   within = omega (arith, length-map parts (λ (part : Bor (List ℕ)). part.now))
 
-  part_is : get_or (texts parts) i default.now ≡ (get_or parts i default).now
+  part_is : get_or (slices parts) i default.now ≡ (get_or parts i default).now
   part_is = get_or-map (λ (part : Bor (List ℕ)). part.now) parts i default default.now lt
 
   pub no_versions : ((version : ℤ) → SpellsVersion version (get_or parts i default).now → ⊥) → (own : List ℤ)
-      → AllZip SpellsVersion own (texts parts) → ⊥
+      → AllZip SpellsVersion own (slices parts) → ⊥
   no_versions none =
-      none_at (texts parts) i default.now within (λ version is. none version (subst (SpellsVersion version) part_is is))
+      none_at (slices parts) i default.now within (λ version is. none version (subst (SpellsVersion version) part_is is))
 
-  pub versions_more : (own : List ℤ) (version : ℤ) → AllZip SpellsVersion own (take i (texts parts))
-      → SpellsVersion version (get_or parts i default).now → AllZip SpellsVersion (own ++ version ∷ []) (take (i + 1) (texts parts))
+  pub versions_more : (own : List ℤ) (version : ℤ) → AllZip SpellsVersion own (take i (slices parts))
+      → SpellsVersion version (get_or parts i default).now → AllZip SpellsVersion (own ++ version ∷ []) (take (i + 1) (slices parts))
   versions_more own version before is =
       subst (AllZip SpellsVersion (own ++ version ∷ []))
-      (sym (take_more (texts parts) i default.now within ∙ ap (λ w. take i (texts parts) ++ w ∷ []) part_is))
-      (all_zipped_more SpellsVersion own (take i (texts parts)) version _ before is)
+      (sym (take_more (slices parts) i default.now within ∙ ap (λ w. take i (slices parts) ++ w ∷ []) part_is))
+      (all_zipped_more SpellsVersion own (take i (slices parts)) version _ before is)

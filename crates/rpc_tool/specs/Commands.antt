@@ -7,10 +7,10 @@ use Rattle.bp_value.specs.Faults.{IsGood}
 use Rattle.bp_text_grammar.specs.WholeTexts.{IsShapeText}
 use Rattle.bp_text.specs.TextAnswers.{RefusesShape}
 use Rattle.rpc_schema.specs.Choice.{menu_shape}
-use Rattle.rpc_world.specs.declared.schedule.Schedule.{Schedule}
-use Rattle.rpc_world.specs.Input.{IsInput, IsBadLine}
-use Rattle.rpc_world.specs.Report.{line_about}
+use Rattle.rpc_schedule.specs.declared.schedule.Schedule.{Schedule}
+use Rattle.rpc_schedule.specs.Schedules.{IsScheduleText}
 use Rattle.rpc_tool.specs.MenuCommands.{AreVersions, IsMenuShown}
+use Rattle.rpc_tool.specs.ScheduleRefusals.{IsScheduleRefusal}
 use Rattle.rpc_tool.specs.StreamReads.{AreFramesTold, AreFramesRefused}
 use Rattle.rpc_tool.specs.ValueCommands.{IsShown, IsShowRefusal, IsWrittenOut, IsWriteRefusal}
 use Rattle.rpc_tool.specs.Wanted.{IsWantedBy}
@@ -87,11 +87,7 @@ IsDone Reports (Show shape) input text = IsShown (form_of shape) input text
 IsDone Reports (Write shape) input text = IsWrittenOut (form_of shape) input text
 IsDone Reports Frames input text = AreFramesTold input text
 IsDone Reports (Menu wanted) input text = IsMenuShown wanted.name wanted.own input text
-IsDone Reports Replay input text = (s : Schedule) × IsInput input s × Reports s text
-
--- the line about a line of a schedule that is none
-abbrev pub refused_line : ℕ → List ℕ
-refused_line number = line_about number (codes "not in the first path")
+IsDone Reports Replay input text = (s : Schedule) × IsScheduleText s input × Reports s text
 
 -- what a command has to write where it refuses its input
 abbrev pub IsRefusal : Command → List ℕ → List ℕ → Type 0
@@ -99,7 +95,7 @@ IsRefusal (Show shape) input text = IsShowRefusal (form_of shape) input text
 IsRefusal (Write shape) input text = IsWriteRefusal (form_of shape) input text
 IsRefusal Frames input text = AreFramesRefused input text
 IsRefusal (Menu wanted) input text = IsShowRefusal (form_of menu_shape) input text
-IsRefusal Replay input text = (number : ℕ) × IsBadLine input number × (text ≡ refused_line number)
+IsRefusal Replay input text = IsScheduleRefusal input text
 
 -- a command comes to use its wires for an input
 abbrev pub MeetsWires : Command → List ℕ → Type 0
@@ -107,4 +103,4 @@ MeetsWires (Show shape) input = ⊥
 MeetsWires (Write shape) input = ⊥
 MeetsWires Frames input = ⊥
 MeetsWires (Menu wanted) input = ⊥
-MeetsWires Replay input = (s : Schedule) × IsInput input s
+MeetsWires Replay input = (s : Schedule) × IsScheduleText s input

@@ -1,11 +1,8 @@
 pub mod Limits
-pub mod Heads
-pub mod Kept
-pub mod Carried
-pub mod Stands
-pub mod Showing
+pub mod Lines
+pub mod Reports
 pub mod Replayed
-pub mod Input
+pub mod Playing
 pub mod HexTexts
 pub mod ValueCommands
 pub mod Spelled
@@ -15,5 +12,7 @@ pub mod StreamLines
 pub mod StreamReads
 pub mod Answers
 pub mod ShapeRefusals
+pub mod ScheduleRefusals
+pub mod Rows
 pub mod Commands
 pub mod Means

@@ -1,9 +1,9 @@
 -- What each status of a run means, whatever the command.
 use Rattle.std.specs.Prelude.{Option, ◌≡◌, ◌<◌, ◌↔◌, ℕ, List, [], ◌++◌, take, codes, String, ◌⊎◌, Result, Ok, Err, IsOk, IfSome, Bool, true, length, ⊤}
 use Rattle.std.specs.declared.alloc.Global.{Global}
-use Rattle.rpc_world.specs.declared.schedule.Schedule.{Schedule}
-use Rattle.rpc_world.specs.Input.{IsInput}
-use Rattle.rpc_world.specs.Report.{line}
+use Rattle.rpc_schedule.specs.declared.schedule.Schedule.{Schedule}
+use Rattle.rpc_schedule.specs.Schedules.{IsScheduleText}
+use Rattle.rpc_tool.specs.Lines.{line}
 use Rattle.rpc_tool.specs.Limits.{most_input}
 use Rattle.rpc_tool.specs.Commands.{IsNamed, IsDone, IsRefusal, IsReplay, MeetsWires}
 use Rattle.std.specs.Io.KnownBytes.{IsAtEnd}
@@ -159,7 +159,7 @@ IsReadThrough status = ⊤
 pub record IsReportOf (Reports : Schedule → List ℕ → Type 0) (text : List ℕ)
     (Writes : List ℕ → Type 0) : Type 0 where
   pub schedule : Schedule
-  pub spelled : IsInput text schedule
+  pub spelled : IsScheduleText schedule text
   pub report : List ℕ
   pub reported : Reports schedule report
   pub written : Writes report

@@ -8,7 +8,7 @@ use Rattle.bp_text_grammar.specs.Printed.{decimal_text, quoted_text}
 use Rattle.rpc_schema.specs.declared.desc.Listing.{Listing}
 use Rattle.rpc_schema.specs.Choice.{menu_shape, menu_value, IsChoice}
 use Rattle.rpc_schema.specs.SchemaLines.{SpellsVersion}
-use Rattle.rpc_world.specs.Report.{line}
+use Rattle.rpc_tool.specs.Lines.{line}
 use Rattle.rpc_tool.specs.HexTexts.{IsHexText}
 use Rattle.rpc_tool.specs.ValueCommands.{longest_shown}
 

@@ -5,7 +5,7 @@ use Rattle.bp_value.specs.declared.fault.ShapeFault.{ShapeFault}
 use Rattle.bp_value.specs.declared.fault.ShapeFault.TheVariants.{TooDeep, EmptySum, ShortTuple, EmptyFields, TooMany, BadName, SameName, TagClash}
 use Rattle.bp_text.specs.declared.error.TextError.{TextError}
 use Rattle.bp_text.specs.declared.error.TextError.TheVariants as error
-use Rattle.rpc_world.specs.Report.{line}
+use Rattle.rpc_tool.specs.Lines.{line}
 
 -- a word, and a number
 abbrev pub with_number : List ℕ → ℕ → List ℕ

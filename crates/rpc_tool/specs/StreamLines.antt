@@ -14,7 +14,7 @@ use Rattle.rpc_msg.specs.declared.message.Answer.TheVariants as answer
 use Rattle.rpc_msg.specs.declared.message.Message.{Message}
 use Rattle.rpc_msg.specs.declared.message.Message.TheVariants as message
 use Rattle.rpc_report.specs.Texts.{cause_text, error_text}
-use Rattle.rpc_world.specs.Report.{line}
+use Rattle.rpc_tool.specs.Lines.{line}
 use Rattle.rpc_tool.specs.declared.stream_reading.Stop.{Stop}
 use Rattle.rpc_tool.specs.declared.stream_reading.Stop.TheVariants as stop
 

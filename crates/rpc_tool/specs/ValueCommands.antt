@@ -12,7 +12,7 @@ use Rattle.rpc_msg.specs.declared.fault.MsgFault.{MsgFault}
 use Rattle.rpc_msg.specs.Bodies.{IsMsgFault}
 use Rattle.rpc_msg.specs.Limits.{usual_limits}
 use Rattle.rpc_report.specs.Texts.{fault_text}
-use Rattle.rpc_world.specs.Report.{line}
+use Rattle.rpc_tool.specs.Lines.{line}
 use Rattle.rpc_tool.specs.HexTexts.{IsHexText, IsBadHex}
 
 -- the most bytes of a text and items of a list in a value that is shown

@@ -2,17 +2,11 @@
 #![tactic(auto)]
 
 mod answers;
-mod carry;
 mod command;
-mod ends;
-mod failure;
+mod dispatch_lines;
 mod framing;
 mod hexes;
-mod inbox;
-mod input;
 mod menus;
-mod message;
-mod pair;
 mod replay;
 mod report;
 mod shape_words;
@@ -21,7 +15,6 @@ mod spelled;
 mod status;
 mod stream_lines;
 mod stream_reading;
-mod text;
 mod top;
 mod versions;
 mod writing;

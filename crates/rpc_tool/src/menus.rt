@@ -4,7 +4,7 @@ ghost use Rattle.bp_value.specs.Form.{form_of};
 ghost use Rattle.rpc_schema.specs.declared.desc.Listing.{Listing};
 ghost use Rattle.rpc_schema.specs.Entries.{IsAnyOf};
 ghost use Rattle.rpc_schema.specs.Choice.{menu_shape, menu_value, IsChoice};
-ghost use Rattle.rpc_world.specs.Report.{line};
+ghost use Rattle.rpc_tool.specs.Lines.{line};
 ghost use Rattle.rpc_tool.specs.Answers.{Answers};
 ghost use Rattle.rpc_tool.specs.MenuCommands.{choice_text, listing_line, menu_text, IsMenuShown};
 ghost use Rattle.rpc_tool.specs.Spelled.{IsSpelled};

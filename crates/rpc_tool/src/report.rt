@@ -1,180 +1,164 @@
-// The text of a replay.
-ghost use Rattle.std.specs.Prelude.{Option, Some, None, ◌≡◌, ◌++◌, [], ◌∷◌, ℕ, List, codes, OnOk, length};
+// The text of a replay. Where memory runs out a front of a line may have been appended.
+ghost use Rattle.std.specs.Prelude.{Option, ◌≡◌, ◌++◌, codes, OnOk, option_copied};
 ghost use Rattle.std.specs.Fmt.{decimal};
-ghost use Rattle.rpc_world.specs.Report.{line, line_about, answer_lines, refusal_text, end_text, moved_line, reply_line, dispatch_line, closing_lines, Shown};
-ghost use Rattle.rpc_tool.specs.Showing.{IsShownBy, AreReplies, dispatched, texts_of};
+ghost use Rattle.rpc_tool.specs.Lines.{line_about, line_place};
+ghost use Rattle.rpc_tool.specs.Reports.{answer_text, closing_text, condition_text, end_line, moved_line, refusal_text, shown_text};
+ghost use Rattle.rpc_tool.specs.ScheduleRefusals.{schedule_refused, IsFault};
+ghost use Rattle.rpc_pair.specs.Sights.{condition, pair_sight};
 
-use crate::pair::Pair;
+use crate::dispatch_lines::{put_dispatch, put_dispatches};
+use bp_text::put_natural;
 use bp_value::OutOfMemory;
-use rpc_world::{EndState, Refusal};
-use std::alloc::Global;
+use rpc_msg::CloseCause;
+use rpc_pair::{Event, Lined, Pair, Refusal, ScheduleError, StepAnswer};
+use rpc_report::put_cause;
 
-/// Appends the answer to the event of a line: a line if it was refused, and else nothing.
-pub fn push_answer(
-    alloc: Global,
+/// Appends what is written of an event that was answered so: a line where it was refused, and the
+/// lines of the dispatch that it shows.
+pub fn put_answer(
+    pair: &Pair,
+    lined: &Lined,
+    answer: StepAnswer,
     out: &mut Vec<u8>,
-    number: u64,
-    answer: Option<Refusal>,
 ) -> Result<(), OutOfMemory>
-    ensures { OnOk result (out.new.items ≡ out.old.items ++ answer_lines number (answer ∷ [])) }
+    ensures { OnOk result (out.new.items
+        ≡ out.old.items ++ answer_text lined.now answer (pair_sight pair.now)) }
 {
     match answer {
-        Some(refusal) => push_line_about(alloc, out, number, text_of_refusal(refusal)),
-        None => Ok(()),
+        StepAnswer::Done => Ok(()),
+        StepAnswer::Refused(refusal) => put_line_about(lined.line, refusal_text(refusal), out),
+        StepAnswer::Shown => put_shown(pair, &lined.event, out),
     }
 }
 
 /// Appends a line about a line of the input.
-pub fn push_line_about(
-    alloc: Global,
-    out: &mut Vec<u8>,
-    number: u64,
-    text: &[u8],
-) -> Result<(), OutOfMemory>
+pub fn put_line_about(number: u64, text: &[u8], out: &mut Vec<u8>) -> Result<(), OutOfMemory>
     ensures { OnOk result (out.new.items ≡ out.old.items ++ line_about number text.now) }
 {
-    out.extend_from_slice(b"line ")?;
-    push_number(alloc, out, number)?;
-    out.extend_from_slice(b": ")?;
+    put_place(number, out)?;
     out.extend_from_slice(text)?;
     out.push(b'\n')?;
     Ok(())
 }
 
-/// Appends the closing lines: the dispatch, both ends, and the bytes that moved.
-pub fn push_closing(alloc: Global, out: &mut Vec<u8>, pair: &Pair) -> Result<(), OutOfMemory>
-    ensures { OnOk result ((shown : Shown) × IsShownBy pair.now shown
-        × (out.new.items ≡ out.old.items ++ closing_lines shown)) }
+// The number of a line of the input.
+fn put_place(number: u64, out: &mut Vec<u8>) -> Result<(), OutOfMemory>
+    ensures { OnOk result (out.new.items ≡ out.old.items ++ line_place number) }
 {
-    push_dispatched(alloc, out, pair)?;
-    push_end(out, b"client ", pair.client.inbox.state())?;
-    push_end(out, b"server ", pair.server.inbox.state())?;
-    push_moved(
-        alloc,
-        out,
-        b"up",
-        pair.server.inbox.bytes.len(),
-        pair.client.put,
-    )?;
-    push_moved(
-        alloc,
-        out,
-        b"down",
-        pair.client.inbox.bytes.len(),
-        pair.server.put,
-    )?;
+    out.extend_from_slice(b"line ")?;
+    put_natural(number, out)?;
+    out.extend_from_slice(b": ")?;
     Ok(())
 }
 
-/// Appends the lines of the dispatch, if one was made.
-fn push_dispatched(alloc: Global, out: &mut Vec<u8>, pair: &Pair) -> Result<(), OutOfMemory>
-    ensures { OnOk result ((replies : List (List ℕ))
-        × AreReplies pair.now.client.inbox.awaited pair.now.client.inbox.bytes.items replies
-        × (out.new.items ≡ out.old.items ++ dispatched pair.now replies)) }
+/// Appends the line about a schedule that is refused. There is none where memory ran out as it was
+/// read.
+pub fn put_schedule_refusal(error: ScheduleError, out: &mut Vec<u8>) -> Result<(), OutOfMemory>
+    ensures { OnOk result (IsFault error
+        × (out.new.items ≡ out.old.items ++ schedule_refused error)) }
 {
-    let reply = pair.client.inbox.text();
-    if let Some(label) = &pair.client.label {
-        push_dispatch(
-            alloc,
-            out,
-            label.as_slice(),
-            pair.name.as_slice(),
-            pair.version,
-        )?;
-        push_reply(out, reply)?;
+    match error {
+        ScheduleError::BadLine { line, at } => put_bad_line(line, at, out),
+        ScheduleError::Twice { line } => put_line_about(line, b"twice", out),
+        ScheduleError::OutOfMemory => Err(OutOfMemory),
     }
+}
+
+// A line of the input is refused at a byte.
+fn put_bad_line(number: u64, at: usize, out: &mut Vec<u8>) -> Result<(), OutOfMemory>
+    ensures { OnOk result (out.new.items
+        ≡ out.old.items ++ line_about number (codes "refused at " ++ decimal at)) }
+{
+    put_place(number, out)?;
+    out.extend_from_slice(b"refused at ")?;
+    put_natural(at as u64, out)?;
+    out.push(b'\n')?;
     Ok(())
 }
 
-fn push_dispatch(
-    alloc: Global,
-    out: &mut Vec<u8>,
-    label: &[u8],
+// The lines of the dispatch that an event shows.
+fn put_shown(pair: &Pair, event: &Event, out: &mut Vec<u8>) -> Result<(), OutOfMemory>
+    ensures { OnOk result (out.new.items
+        ≡ out.old.items ++ shown_text event.now (pair_sight pair.now)) }
+{
+    let Event::Show { label } = event else {
+        return Ok(());
+    };
+    match pair.made(label.as_slice()) {
+        Some(made) => put_dispatch(pair.book(), made, out),
+        None => Ok(()),
+    }
+}
+
+/// Appends the closing lines: the dispatches, both ends, and the bytes that moved.
+pub fn put_closing(pair: &Pair, out: &mut Vec<u8>) -> Result<(), OutOfMemory>
+    ensures { OnOk result (out.new.items ≡ out.old.items ++ closing_text (pair_sight pair.now)) }
+{
+    let book = pair.book();
+    let server = pair.server();
+    let moved = pair.moved();
+    put_dispatches(book, out)?;
+    put_end(b"client ", book.cause(), book.is_open(), out)?;
+    put_end(b"server ", server.cause(), server.is_open(), out)?;
+    put_moved(b"up ", moved.up, moved.up_put, out)?;
+    put_moved(b"down ", moved.down, moved.down_put, out)
+}
+
+// How an end stands: its name, and why it is closed, or else whether it is open.
+fn put_end(
     name: &[u8],
-    version: u8,
-) -> Result<(), OutOfMemory>
-    ensures { OnOk result
-        (out.new.items ≡ out.old.items ++ dispatch_line label.now name.now version) }
-{
-    out.extend_from_slice(label)?;
-    out.extend_from_slice(b" id 0 ")?;
-    out.extend_from_slice(name)?;
-    out.push(b' ')?;
-    push_number(alloc, out, version.into())?;
-    out.push(b'\n')?;
-    Ok(())
-}
-
-fn push_reply(out: &mut Vec<u8>, reply: Option<&[u8]>) -> Result<(), OutOfMemory>
-    ensures { OnOk result (out.new.items ≡ out.old.items ++ reply_line (texts_of reply.entry)) }
-{
-    match reply {
-        Some(text) => {
-            out.extend_from_slice(b"  reply \"")?;
-            out.extend_from_slice(text)?;
-            out.extend_from_slice(b"\"\n")?;
-            Ok(())
-        }
-        None => {
-            out.extend_from_slice(b"  waiting\n")?;
-            Ok(())
-        }
-    }
-}
-
-fn push_end(out: &mut Vec<u8>, way: &[u8], state: EndState) -> Result<(), OutOfMemory>
-    ensures { OnOk result (out.new.items ≡ out.old.items ++ line (way.now ++ end_text state)) }
-{
-    out.extend_from_slice(way)?;
-    out.extend_from_slice(text_of_state(state))?;
-    out.push(b'\n')?;
-    Ok(())
-}
-
-fn push_moved(
-    alloc: Global,
+    cause: Option<&CloseCause>,
+    is_open: bool,
     out: &mut Vec<u8>,
-    way: &[u8],
-    moved: usize,
-    put: usize,
 ) -> Result<(), OutOfMemory>
+    ensures { OnOk result (out.new.items
+        ≡ out.old.items ++ end_line name.now (condition (option_copied cause.entry) is_open)) }
+{
+    out.extend_from_slice(name)?;
+    match cause {
+        Some(cause) => {
+            out.extend_from_slice(b"closed: ")?;
+            put_cause(cause, out)?;
+        }
+        None => out.extend_from_slice(if is_open { b"open" } else { b"opening" })?,
+    }
+    out.push(b'\n')?;
+    Ok(())
+}
+
+// The bytes that moved one way, of those that were put.
+fn put_moved(way: &[u8], moved: u64, put: u64, out: &mut Vec<u8>) -> Result<(), OutOfMemory>
     ensures { OnOk result (out.new.items ≡ out.old.items ++ moved_line way.now moved put) }
 {
     out.extend_from_slice(way)?;
-    out.push(b' ')?;
-    push_number(alloc, out, moved as u64)?;
+    put_natural(moved, out)?;
     out.extend_from_slice(b" of ")?;
-    push_number(alloc, out, put as u64)?;
+    put_natural(put, out)?;
     out.push(b'\n')?;
     Ok(())
 }
 
-fn push_number(alloc: Global, out: &mut Vec<u8>, number: u64) -> Result<(), OutOfMemory>
-    ensures { OnOk result (out.new.items ≡ out.old.items ++ decimal number) }
-{
-    let digits = number.to_string(alloc)?;
-    out.extend_from_slice(digits.as_bytes())?;
-    Ok(())
-}
-
-fn text_of_refusal(refusal: Refusal) -> &'static [u8]
+fn refusal_text(refusal: Refusal) -> &'static [u8]
     ensures { result.now ≡ refusal_text refusal }
 {
     match refusal {
+        Refusal::LabelTaken => b"label taken",
         Refusal::NoSuchRpc => b"no such rpc",
+        Refusal::NoMenu => b"no menu",
+        Refusal::NoVersion => b"no version",
+        Refusal::BadValue => b"bad value",
         Refusal::Closed => b"closed",
         Refusal::NotOpen => b"not open",
+        Refusal::TooLong => b"too long",
+        Refusal::TooManyOpen => b"too many open",
+        Refusal::IdsSpent => b"ids spent",
         Refusal::NoSuchLabel => b"no such label",
+        Refusal::AlreadyEnded => b"already ended",
+        Refusal::NotStream => b"not stream",
+        Refusal::NotBegun => b"not begun",
+        Refusal::WrongKind => b"wrong kind",
         Refusal::NoSuch => b"no such",
-    }
-}
-
-fn text_of_state(state: EndState) -> &'static [u8]
-    ensures { result.now ≡ end_text state }
-{
-    match state {
-        EndState::Opening => b"opening",
-        EndState::Open => b"open",
-        EndState::Closed => b"closed: not in the first path",
+        Refusal::Stopped => b"stopped",
+        Refusal::AlreadyBegun => b"already begun",
     }
 }

@@ -6,7 +6,7 @@ ghost use Rattle.bp_value.specs.Faults.{IsGood};
 ghost use Rattle.bp_grammar.specs.Spells.{Spells};
 ghost use Rattle.rpc_msg.specs.Bodies.{IsBodyRead};
 ghost use Rattle.rpc_report.specs.Texts.{fault_text};
-ghost use Rattle.rpc_world.specs.Report.{line};
+ghost use Rattle.rpc_tool.specs.Lines.{line};
 ghost use Rattle.rpc_tool.specs.Spelled.{IsSpelled};
 ghost use Rattle.rpc_tool.specs.ValueCommands.{hex_refused, longest_shown};
 

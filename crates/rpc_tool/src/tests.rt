@@ -4,6 +4,7 @@ use std::alloc::{AllocError, Global};
 use std::test::Fail;
 
 mod menus;
+mod replays;
 mod streams;
 mod values;
 
@@ -127,20 +128,13 @@ fn answers_each_input_by_its_status_and_text(rt: HostRuntime) -> Result<(), Fail
             0,
             REPORT,
         ),
-        // The server's header has not come when the client asks.
-        (
-            "plain echo 1 both = string -> string\n--\nup all\n\
-            ask a echo 1 \"hi\"\nup 20 by 1\nreply a \"hi\"\ndown 15 by 1\n",
-            0,
-            "line 4: not open\nline 6: no such label\nclient open\nserver open\n\
-            up 10 of 10\ndown 10 of 10\n",
-        ),
-        // The response stays in flight.
+        // The response stays in flight, which is shown twice.
         (
             "plain echo 1 both = string -> string\n--\nup all\ndown all\n\
-            ask a echo 1 \"hi\"\nup 20 by 1\nreply a \"hi\"\n",
+            ask a echo 1 \"hi\"\nup 20 by 1\nreply a \"hi\"\nshow a\n",
             0,
-            "a id 0 echo 1\n  waiting\nclient open\nserver open\nup 30 of 30\ndown 10 of 25\n",
+            "a id 0 echo 1\n  waiting\na id 0 echo 1\n  waiting\nclient open\nserver open\n\
+            up 30 of 30\ndown 10 of 25\n",
         ),
         // The last byte of the client's header stays in flight.
         (
@@ -148,63 +142,25 @@ fn answers_each_input_by_its_status_and_text(rt: HostRuntime) -> Result<(), Fail
             0,
             "client opening\nserver opening\nup 9 of 10\ndown 0 of 10\n",
         ),
+        // The shape begins at the place 30 of its line.
         (
-            "plain echo 1 both = string -> string\n--\nup all\ndown all\n\
-            ask a echo 1 \"\"\nup 18\nreply a \"\"\ndown 13\n",
-            0,
-            "a id 0 echo 1\n  reply \"\"\nclient open\nserver open\nup 28 of 28\ndown 23 of 23\n",
-        ),
-        (
-            "plain echo 1 both = string -> string\n--\nup all\ndown all\n\
-            ask a echo 1 \"hi\"\nask b echo 1 \"hi\"\n",
+            "plain echo 1 both = string -> strin\n--\nup all\n",
             1,
-            "line 6: not in the first path\n",
+            "line 1: refused at 30\n",
         ),
         (
-            "pipe each 1 both = int list -> int ! unit\n--\nup all\n",
+            "plain echo 1 both = string -> string\noneway echo 1 both = unit\n--\nup all\n",
             1,
-            "line 1: not in the first path\n",
+            "line 2: twice\n",
         ),
-        ("", 1, "line 1: not in the first path\n"),
+        // The mark between the schema and the events is missing.
+        ("", 1, "line 1: refused at 0\n"),
     ];
     for (text, status, report) in rows {
         let (answer, written) = replay_text(rt.alloc(), text)?;
         assert_eq!(rt; answer, status);
         assert_eq!(rt; written.as_slice(), report.as_bytes());
     }
-    Ok(())
-}
-
-#[test]
-fn pieces_of_any_size_report_the_same(rt: HostRuntime) -> Result<(), Fail> {
-    let alloc = rt.alloc();
-    for by in 1..=40 {
-        let text = format!(in alloc;
-            "plain echo 1 both = string -> string\n--\nup all\ndown all\n\
-            ask a echo 1 \"hi\"\nup 20 by {by}\nreply a \"hi\"\ndown 15 by {by}\n"
-        )?;
-        let (status, written) = replay_text(alloc, &text)?;
-        assert_eq!(rt; status, 0);
-        assert_eq!(rt; written.as_slice(), REPORT.as_bytes());
-    }
-    Ok(())
-}
-
-#[test]
-fn the_longest_texts_arrive_whole(rt: HostRuntime) -> Result<(), Fail> {
-    let alloc = rt.alloc();
-    let letters = String::from_utf8(vec![in alloc; b'z'; 1000]?)?;
-    let text = format!(in alloc;
-        "plain echo 1 both = string -> string\n--\nup all\ndown all\n\
-        ask a echo 1 \"{letters}\"\nup all\nreply a \"{letters}\"\ndown all\n"
-    )?;
-    let report = format!(in alloc;
-        "a id 0 echo 1\n  reply \"{letters}\"\n\
-        client open\nserver open\nup 1032 of 1032\ndown 1027 of 1027\n"
-    )?;
-    let (status, written) = replay_text(alloc, &text)?;
-    assert_eq!(rt; status, 0);
-    assert_eq!(rt; written.as_slice(), report.as_bytes());
     Ok(())
 }
 
@@ -219,32 +175,31 @@ fn bent_wires_are_reported_by_what_they_gave(rt: HostRuntime) -> Result<(), Fail
             (24, 0x6A),
             "a id 0 echo 1\n  reply \"hj\"\nclient open\nserver open\nup 30 of 30\ndown 25 of 25\n",
         ),
-        // The response's length is 255, as of a text of 246 letters, until another length follows.
+        // The response's length is 255, and the client waits for the rest.
         (
             (1000, 0x6A),
             (10, 0xFF),
-            "a id 0 echo 1\n  waiting\nclient closed: not in the first path\nserver open\n\
-            up 30 of 30\ndown 22 of 25\n",
+            "a id 0 echo 1\n  waiting\nclient open\nserver open\nup 30 of 30\ndown 25 of 25\n",
         ),
-        // The response's length is above that of any response.
+        // The response's length is above that of any message.
         (
             (1000, 0x6A),
-            (11, 0xFF),
-            "a id 0 echo 1\n  waiting\nclient closed: not in the first path\nserver open\n\
-            up 30 of 30\ndown 12 of 25\n",
+            (13, 0xFF),
+            "a id 0 echo 1\n  closed\nclient closed: frame too long at 13\nserver open\n\
+            up 30 of 30\ndown 14 of 25\n",
         ),
-        // The query's constructor is another.
+        // The query is a response, to the id 4, that is of no case.
         (
             (18, 2),
             (1000, 0x6A),
             "line 7: closed\na id 0 echo 1\n  waiting\nclient open\n\
-            server closed: not in the first path\nup 19 of 30\ndown 10 of 10\n",
+            server closed: message refused at 2: case\nup 30 of 30\ndown 10 of 10\n",
         ),
-        // The client's end closes at the header.
+        // The server's header has another version alone.
         (
             (1000, 0x6A),
             (9, 2),
-            "line 5: closed\nline 7: no such label\nclient closed: not in the first path\n\
+            "line 5: closed\nline 7: no such label\nclient closed: no common protocol\n\
             server open\nup 10 of 10\ndown 10 of 10\n",
         ),
     ];

@@ -6,19 +6,18 @@ ghost use Rattle.rpc_tool.specs.declared.command.Command.TheVariants as command;
 ghost use Rattle.rpc_tool.specs.declared.status.Status.{Status};
 ghost use Rattle.rpc_tool.specs.declared.status.Status.TheVariants as outcome;
 ghost use Rattle.rpc_tool.specs.Replayed.{FreshOver, HonestOver, ReportedOver, ReplayedOver};
-ghost use Rattle.rpc_tool.specs.Commands.{refused_line, IsOfGoodShape};
+ghost use Rattle.rpc_tool.specs.Commands.{IsOfGoodShape};
 ghost use Rattle.rpc_tool.specs.Limits.{most_input};
+ghost use Rattle.rpc_tool.specs.ScheduleRefusals.{schedule_refused, IsFault};
 ghost use Rattle.rpc_tool.specs.ShapeRefusals.{shape_refused};
 ghost use Rattle.rpc_tool.specs.Means.{code_of, ReportsOver, MeansFor, MeansOf, IsReplayDone, IsSaid, IsAnswered, WasGiven, IsReadThrough, IsReportOfInput};
 
 use crate::answers::Answer;
 use crate::command::{Command, Misuse, command_of};
-use crate::failure::Failure;
 use crate::framing::frames;
-use crate::input::{InputError, read_schedule};
 use crate::menus::menu;
 use crate::replay::replay;
-use crate::report::push_line_about;
+use crate::report::put_schedule_refusal;
 use crate::shape_words::put_shape_refusal;
 use crate::showing::show;
 use crate::status::Status;
@@ -26,7 +25,7 @@ use crate::writing::write;
 use bp_base::{Finished, ReadAllError, Sink, Source, Wire, read_all, write_all};
 use bp_text::TextError;
 use bp_value::OutOfMemory;
-use rpc_world::Schedule;
+use rpc_pair::{PairError, Schedule, ScheduleError};
 use std::alloc::Global;
 
 /// How many bytes of input a command takes.
@@ -34,8 +33,6 @@ const MAX_INPUT: usize = 1 << 26;
 
 const USAGE: &[u8] =
     b"usage: rpc show SHAPE | write SHAPE | frames | menu NAME VERSIONS | replay | gen N\n";
-
-const NOT_IN_FORM: &[u8] = b"not in the first path";
 
 /// Runs the command that the words name, and answers the exit status of the program.
 pub fn run<I: Source, O: Sink, W: Wire>(
@@ -158,26 +155,25 @@ fn replay_text<O: Sink, W: Wire>(
     ensures said { IsSaid (ReportsOver W.honest W.sent W.given up.old up.new down.old down.new)
         (Ok command.Replay) text.now (Gains O.put out.old out.new) result }
 {
-    match read_schedule(alloc, text) {
-        Ok(schedule) => match replay(alloc, &schedule, up, down) {
+    match Schedule::read(alloc, text) {
+        Ok(schedule) => match replay(alloc, schedule, up, down) {
             Ok(report) => answer(out, &report, Status::Done),
-            Err(Failure::WireFault) => Status::WireFault,
-            Err(Failure::OutOfMemory) => Status::OutOfMemory,
+            Err(PairError::WireFault) => Status::WireFault,
+            Err(PairError::OutOfMemory) => Status::OutOfMemory,
         },
-        Err(InputError::BadLine { line }) => refuse(alloc, line, out),
-        Err(InputError::OutOfMemory) => Status::OutOfMemory,
+        Err(error) => refuse_schedule(alloc, error, out),
     }
 }
 
-/// Writes which line of the input is refused.
-fn refuse<O: Sink>(alloc: Global, number: u64, out: &mut O) -> Status
+/// Writes which line of a schedule is refused, and why.
+fn refuse_schedule<O: Sink>(alloc: Global, error: ScheduleError, out: &mut O) -> Status
     ensures write { Counts O.faults out.old out.new (result ≡ outcome.WriteFault) }
-    ensures answered { IsAnswered outcome.Refused (refused_line number)
+    ensures answered { IsFault error × IsAnswered outcome.Refused (schedule_refused error)
         (Gains O.put out.old out.new) result
         ⊎ ((result ≡ outcome.OutOfMemory) × Gains O.put out.old out.new []) }
 {
     let mut line = Vec::new(alloc);
-    match push_line_about(alloc, &mut line, number, NOT_IN_FORM) {
+    match put_schedule_refusal(error, &mut line) {
         Ok(()) => answer(out, &line, Status::Refused),
         Err(OutOfMemory) => Status::OutOfMemory,
     }

@@ -1,12 +1,13 @@
 // What the words of `menu` ask for.
-ghost use Rattle.std.specs.Prelude.{IfOk, MatchOption};
+ghost use Rattle.std.specs.Prelude.{◌≡◌, nat_eq, IfOk, MatchOption};
+ghost use Rattle.std.specs.List.{slice_split};
+ghost use Rattle.rpc_schema.specs.Reading.{slices};
 ghost use Rattle.rpc_tool.specs.Wanted.{IsNoVersions, IsWantedBy};
 ghost use Rattle.rpc_tool.specs.MenuCommands.{AreVersions};
 
-use crate::input::words::parts_of;
 use bp_value::{Blob, Listed, OutOfMemory};
 use rpc_schema::read_version;
-use std::alloc::Global;
+use std::alloc::{AllocError, Global};
 
 /// What the words of `menu` ask for.
 #[derive(Debug, Drop)]
@@ -45,4 +46,12 @@ fn read_versions(alloc: Global, word: &[u8]) -> Result<Option<Vec<i64>>, OutOfMe
         }
     }
     Ok(Some(own))
+}
+
+// What stands before, between and after the separators.
+fn parts_of(alloc: Global, word: &[u8], separator: u8) -> Result<Vec<&[u8]>, AllocError>
+    ensures { IfOk result (λ parts. slices parts.items
+        ≡ slice_split (λ byte. nat_eq byte separator) word.now) }
+{
+    word.split(|byte| *byte == separator).collect(alloc)
 }

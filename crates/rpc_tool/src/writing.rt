@@ -5,7 +5,7 @@ ghost use Rattle.bp_grammar.specs.Written.{written};
 ghost use Rattle.bp_value.specs.Form.{form_of};
 ghost use Rattle.bp_value.specs.Faults.{IsGood};
 ghost use Rattle.hex.specs.Hex.{encode_lower};
-ghost use Rattle.rpc_world.specs.Report.{line};
+ghost use Rattle.rpc_tool.specs.Lines.{line};
 ghost use Rattle.rpc_tool.specs.Answers.{Answers};
 ghost use Rattle.rpc_tool.specs.Limits.{most_input};
 ghost use Rattle.rpc_tool.specs.ValueCommands.{value_refused, without_line_end, IsWriteRefusal, IsWrittenOut};

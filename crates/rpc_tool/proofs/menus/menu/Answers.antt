@@ -3,7 +3,7 @@ use Rattle.std.proofs.Common.{subst}
 use Rattle.bp_value.specs.Form.{form_of}
 use Rattle.rpc_schema.specs.Choice.{menu_shape}
 use Rattle.rpc_tool.specs.Spelled.{IsSpelled}
-use Rattle.rpc_tool.proofs.SpelledFits.{spelled_value_fits}
+use Rattle.rpc_tool.proofs.ShownFits.{spelled_value_fits}
 use Rattle.rpc_tool.proofs.menus.menu.Goals as goal
 
 pub listed-requires : goal.listed-requires

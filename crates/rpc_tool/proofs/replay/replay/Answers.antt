@@ -1,63 +1,32 @@
-use Rattle.std.proofs.Common.{arith, ◌≡◌, ◌∙◌, length, take, ap, sym, subst}
-use Rattle.std.proofs.lemmas.List.{take_all}
+-- The report is that of all events.
+use Rattle.std.proofs.Common.{rules, ap, ◌∙◌, subst, sym, []}
 use Rattle.bp_base.proofs.Counting.{both_after, both_steady}
-use Rattle.rpc_world.specs.World.{first_world, world_after}
-use Rattle.rpc_tool.specs.Replayed.{IsAsked, AreAnswers}
-use Rattle.rpc_tool.proofs.Shows.{reported, replayed}
-use Rattle.rpc_tool.proofs.Replaying.{may_step, asked_next, answers_next, world_next, length_before, taken}
+use Rattle.rpc_tool.specs.Playing.{PlayedOver, SteppedOver}
+use Rattle.rpc_tool.proofs.Told.{replayed, reported}
 use Rattle.rpc_tool.proofs.replay.replay.Goals as goal
 
-pub step-requires-clause-once : goal.step-requires-clause-once
-step-requires-clause-once g c =
-    may_step _ c.as_slice-events.result.now _ _ c.events.invariant.asked
-    (rw c.as_slice-events.ensures c.requires.asks) c.events-test.true c.index-events-index.is
-
-pub events-preserved : goal.events-preserved
-events-preserved g c =
-    let more =
-    taken c.as_slice-events.result.now c.events.index c.index-events-index.result
-    c.events-test.true c.index-events-index.is in
-    let before = take c.events.index c.as_slice-events.result.now in
-    let first = first_world c.args.schedule.now.name c.args.schedule.now.version in
-    record {
-      within = omega arith;
-      wires = both_steady _ _ _ _ _ _ _ (λ is. cc)
-          (both_after _ _ _ _ _ _ _ _ _ c.events.invariant.wires c.in_ok-answer.ensures.wires);
-      name = c.in_ok-answer.ensures.schema.0 ∙ c.events.invariant.name;
-      version = c.in_ok-answer.ensures.schema.1 ∙ c.events.invariant.version;
-      asked = subst (λ events. IsAsked c.step.new.self.client.label events) (sym more)
-          (asked_next _ _ before c.index-events-index.result c.events.invariant.asked
-          c.in_ok-answer.ensures.label);
-      answers = answers_next _ _ _ _ c.events.invariant.answers c.in_ok-push_answer.ensures;
-      told = λ fresh. c.in_ok-answer.ensures.told (c.events.invariant.told fresh);
-      world = λ honest.
-          let was = c.events.invariant.world honest in
-          let stepped = c.in_ok-answer.ensures.world (world_after first before)
-          (c.events.invariant.wires.up_honest.0 honest.up_honest)
-          (c.events.invariant.wires.down_honest.0 honest.down_honest) was.0 in
-          world_next _ first _ before c.index-events-index.result c.events.index _ _ _ _ _ _ _ more
-          (length_before c.as_slice-events.result.now c.events.index c.events.invariant.within)
-          was.1 stepped c.in_ok-push_answer.ensures;
-    }
+pub returns-in_err-play-clause-wires : goal.returns-in_err-play-clause-wires
+returns-in_err-play-clause-wires g c = search (rules, both_after _ _ _ _ _ _ _ _ _ (both_steady _ _ _ _ _ _ _ (λ is. cc) c.in_ok-pair.ensures.wires) c.in_err-play.ensures.wires, c.from_residual-in_err-play.ensures)
 
 pub returns-clause-reported : goal.returns-clause-reported
 returns-clause-reported g c = λ fresh.
-    let some = c.in_ok-push_closing.ensures in
-    let end : c.events.index ≡ length c.as_slice-events.result.now = let within =
-    c.events.invariant.within in omega arith in
-    let all = take_all c.events.index c.as_slice-events.result.now (omega arith)
-    ∙ c.as_slice-events.ensures in
-    reported c.events.pair c.args.schedule.now some.0 _ _ _ _ _ _ (c.events.invariant.told fresh)
-    c.events.invariant.name c.events.invariant.version
-    (subst (λ events. IsAsked c.events.pair.client.label events) all c.events.invariant.asked)
-    (subst (λ n. AreAnswers c.events.report.items n) (end ∙ ap length c.as_slice-events.ensures)
-    c.events.invariant.answers)
-    some.1 some.2
+    let W = g.W.Wire in
+    let schedule = c.args.schedule in
+    let before = subst (λ t. PlayedOver W.sent W.given schedule.schema [] t c.in_ok-pair.pair c.start.new.up c.start.new.down) (sym c.new-report.ensures.items)
+    (c.in_ok-pair.ensures.played fresh) in
+    let behind = c.in_ok-play.ensures.played schedule.schema before in
+    reported schedule c.play.new.report.items c.put_closing.new.out.items c.play.new.pair (W.sent c.play.new.up) (W.given c.play.new.up) (W.sent c.play.new.down) (W.given c.play.new.down)
+    (subst (λ es. PlayedOver W.sent W.given schedule.schema es c.play.new.report.items c.play.new.pair c.play.new.up c.play.new.down) c.as_slice.ensures behind)
+    c.in_ok-put_closing.ensures
 
 pub returns-clause-replayed : goal.returns-clause-replayed
 returns-clause-replayed g c = λ honest.
-    let some = c.in_ok-push_closing.ensures in
-    let last = c.events.invariant.world honest in
-    let all = take_all c.events.index c.as_slice-events.result.now (omega arith)
-    ∙ c.as_slice-events.ensures in
-    replayed c.events.pair c.args.schedule.now _ some.0 _ _ _ _ _ _ all last some.1 some.2
+    let W = g.W.Wire in
+    let schedule = c.args.schedule in
+    let before = subst (λ t. SteppedOver W.sent W.given schedule.schema [] t c.in_ok-pair.pair c.start.new.up c.start.new.down) (sym c.new-report.ensures.items)
+    (c.in_ok-pair.ensures.stepped honest) in
+    let wires = c.in_ok-pair.ensures.wires in
+    let behind = c.in_ok-play.ensures.stepped schedule.schema (wires.up_honest.0 honest.up_honest) (wires.down_honest.0 honest.down_honest) before in
+    replayed W.sent W.given schedule c.play.new.report.items c.put_closing.new.out.items c.play.new.pair c.play.new.up c.play.new.down
+    (subst (λ es. SteppedOver W.sent W.given schedule.schema es c.play.new.report.items c.play.new.pair c.play.new.up c.play.new.down) c.as_slice.ensures behind)
+    c.in_ok-put_closing.ensures

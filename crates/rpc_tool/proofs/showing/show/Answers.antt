@@ -1,7 +1,7 @@
 use Rattle.std.proofs.Common.{subst}
 use Rattle.bp_value.specs.Form.{form_of}
 use Rattle.rpc_tool.specs.Spelled.{IsSpelled}
-use Rattle.rpc_tool.proofs.SpelledFits.{spelled_value_fits}
+use Rattle.rpc_tool.proofs.ShownFits.{spelled_value_fits}
 use Rattle.rpc_tool.proofs.showing.show.Goals as goal
 
 pub shown-requires : goal.shown-requires

@@ -1,4 +1,0 @@
-pub mod Stream
-pub mod World
-pub mod Report
-pub mod Input
