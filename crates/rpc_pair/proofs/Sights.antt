@@ -3,6 +3,7 @@ use Rattle.std.proofs.Common.{◌≡◌, refl, sym, ap, ◌∙◌, subst, ℕ, B
 use Rattle.std.specs.Prelude.{Option, Some, None}
 use Rattle.std.specs.Option.{is_some, option_map}
 use Rattle.rpc_msg.specs.declared.shared.CloseCause.{CloseCause}
+use Rattle.rpc_msg.specs.declared.shared.Received.{Received}
 use Rattle.rpc_end.specs.Ends.{EndState}
 use Rattle.rpc_meeting.specs.Talks.{Common, Dispatch, received}
 use Rattle.rpc_meeting.specs.Worlds.{Reason, Side, World, come, has_header, is_shut, stream_of}
@@ -11,14 +12,14 @@ use Rattle.rpc_meeting.proofs.Reached.{good}
 use Rattle.rpc_book.specs.Books.{BookState, Booked, held_in}
 use Rattle.rpc_pair.specs.declared.moved.Moved.{Moved}
 use Rattle.rpc_pair.specs.Links.{LinkStands, cause_as}
-use Rattle.rpc_pair.specs.Pairs.{PairState}
+use Rattle.rpc_pair.specs.Pairs.{PairState, ShowsLabel}
 use Rattle.rpc_pair.specs.Rules.{IsOfSchema}
 use Rattle.rpc_pair.specs.Sights.{Condition, Seen, Sight, condition, end_condition, pair_sight, seen_in, seen_of, side_condition, world_sight}
-use Rattle.rpc_pair.specs.Standing.{booked_of}
-use Rattle.rpc_pair.specs.Wires.{StandsFor}
+use Rattle.rpc_pair.specs.Standing.{ShowsReceived, booked_of}
+use Rattle.rpc_pair.specs.Wires.{ShowsWorld, StandsFor, received_under}
 use Rattle.rpc_pair.proofs.BothEnds.{EndsHold}
 use Rattle.rpc_pair.proofs.Schemas.{schema_ok}
-use Rattle.rpc_pair.proofs.Shown.{held_ends}
+use Rattle.rpc_pair.proofs.Shown.{held_ends, label_ends}
 
 -- an end that is not closed has its header exactly where its side has
 same_condition : (why : Option Reason) (greeted has : Bool) → (is_some why ≡ false → greeted ≡ has) → condition (option_map cause_as why) greeted ≡ condition (option_map cause_as why) has
@@ -61,3 +62,11 @@ module _ (r : Common) (is : IsOfSchema r) (w : World) (p : PairState) (up_sent u
       ∙ (ap (λ c. sight_by (map (seen_of r w) w.talk.made) c (end_condition p.server.link) p.moved) (link_condition r w.got w.client w.now p.book.link stands.ends.book_link)
       ∙ (ap (λ c. sight_by (map (seen_of r w) w.talk.made) (side_condition w.client w.got) c p.moved) (link_condition r w.up w.server w.now p.server.link stands.ends.server_link)
       ∙ ap (λ m. sight_by (map (seen_of r w) w.talk.made) (side_condition w.client w.got) (side_condition w.server w.up) m) moved_same))
+
+  shown_of_world : (label : List ℕ) (shown : Option Received) → ShowsLabel p.book label shown → ShowsReceived (received_under r w label) shown
+  shown_of_world label shown shows = label_ends r is w p.book p.server stands.taken ends label shown shows
+
+-- What is shown of a label is what its dispatch received in any world that the pair stands for.
+pub world_shown : (p : PairState) (label : List ℕ) (shown : Option Received) → ShowsLabel p.book label shown → ShowsWorld p label shown
+world_shown p label shown shows = λ r w up_sent up_given down_sent down_given is stands.
+    shown_of_world r is w p up_sent up_given down_sent down_given stands label shown shows

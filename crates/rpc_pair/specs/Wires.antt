@@ -1,18 +1,20 @@
 -- What a step of a pair is over two wires, and how a pair stands for a world over wires that tell their bytes.
-use Rattle.std.specs.Prelude.{◌≡◌, ℕ, true, List, [], length, take, Option, Some}
+use Rattle.std.specs.Prelude.{◌≡◌, ℕ, true, List, [], length, take, Option, Some, option_map}
 use Rattle.bp_base.specs.Moves.{in_flight}
 use Rattle.bp_base.specs.Told.{Gains}
 use Rattle.rpc_schedule.specs.declared.event.Event.{Event}
-use Rattle.rpc_meeting.specs.Deeds.{Deed, MoveDown, MoveUp}
+use Rattle.rpc_msg.specs.declared.shared.Received.{Received}
+use Rattle.rpc_talk.specs.Parts.{Held}
+use Rattle.rpc_meeting.specs.Deeds.{Deed, MoveDown, MoveUp, find_label}
 use Rattle.rpc_meeting.specs.declared.answer.StepAnswer.{StepAnswer}
 use Rattle.rpc_meeting.specs.declared.answer.StepAnswer.TheVariants.{Done}
 use Rattle.rpc_meeting.specs.Steps.{IsReached, IsStep, Stepped}
-use Rattle.rpc_meeting.specs.Talks.{Common}
-use Rattle.rpc_meeting.specs.Worlds.{World, stream_of}
+use Rattle.rpc_meeting.specs.Talks.{Common, received}
+use Rattle.rpc_meeting.specs.Worlds.{World, come, is_shut, stream_of}
 use Rattle.rpc_pair.specs.Moving.{IsSpent}
 use Rattle.rpc_pair.specs.Pairs.{PairState, Came, IsDeedAt, Traffic, IsTurn, IsNewPair, DoesOver, all_put, nothing}
 use Rattle.rpc_pair.specs.Rules.{IsOfSchema}
-use Rattle.rpc_pair.specs.Standing.{EndsStand}
+use Rattle.rpc_pair.specs.Standing.{EndsStand, ShowsReceived}
 
 -- ---- any wires
 
@@ -79,6 +81,17 @@ pub record StepsTo {W : Type 0} (sent given : W → Option (List ℕ)) (r : Comm
   pub step : IsStep r w e to
   pub outcome : to.outcome ≡ answer
   pub stands : StandsOver sent given r to.world new up down
+
+-- ---- what is shown
+
+-- what the dispatch of a label received in a world; nothing where none has the label
+abbrev pub received_under : Common → World → List ℕ → Option Held
+received_under r w label = option_map (received r.limits.max_message (come w) (is_shut w.client)) (find_label label w.talk.made)
+
+-- in whatever world a pair stands for, over whatever wires, just this is what the dispatch of a label received
+abbrev pub ShowsWorld : PairState → List ℕ → Option Received → Type 0
+ShowsWorld p label shown = (r : Common) (w : World) (up_sent up_given down_sent down_given : Option (List ℕ)) → IsOfSchema r
+    → StandsFor r w p up_sent up_given down_sent down_given → ShowsReceived (received_under r w label) shown
 
 -- ---- the start
 

@@ -68,7 +68,7 @@ impl Pair {
     ghost use Rattle.rpc_meeting.specs.Talks.{Common};
     ghost use Rattle.rpc_meeting.specs.Worlds.{first_world, World};
     ghost use Rattle.rpc_pair.specs.Pairs.{HasMade, IsMovable, IsNewPair, ShowsLabel, StartsAs};
-    ghost use Rattle.rpc_pair.specs.Wires.{ActsOver, IsHonestly, MovesDownOver, MovesUpOver, PutsOver, StandsOver, StartsOver, StepsTo, TurnsOver};
+    ghost use Rattle.rpc_pair.specs.Wires.{ActsOver, IsHonestly, MovesDownOver, MovesUpOver, PutsOver, ShowsWorld, StandsOver, StartsOver, StepsTo, TurnsOver};
 
     /// A pair at the moment 0, whose ends have one schema and the same limits.
     pub fn new(alloc: Global, schema: Schema, limits: Limits) -> Result<Pair, OutOfMemory>
@@ -131,7 +131,8 @@ impl Pair {
 
     /// What the dispatch of this label has received; nothing where no dispatch has it. No memory.
     pub fn received(&self, label: &[u8]) -> Option<Received<'_>>
-        ensures { ShowsLabel self.now.book label.now result }
+        ensures shows { ShowsLabel self.now.book label.now result }
+        ensures world { ShowsWorld self.now label.now result }
     {
         let made = under(&self.book, label)?;
         self.book.received(&Ticket { id: made.id })

@@ -193,7 +193,7 @@ fn bent_wires_are_reported_by_what_they_gave(rt: HostRuntime) -> Result<(), Fail
             (18, 2),
             (1000, 0x6A),
             "line 7: closed\na id 0 echo 1\n  waiting\nclient open\n\
-            server closed: message refused at 2: case\nup 30 of 30\ndown 10 of 10\n",
+            server closed: message refused at 20: case\nup 30 of 30\ndown 10 of 10\n",
         ),
         // The server's header has another version alone.
         (
