@@ -41,8 +41,7 @@ module _ (b : BookState) (sound : IsSound b) (kept : Each IsKept b.made) where
       → (d : Booked) × IsRow b x d × (take (k + 1) b.made ≡ take k b.made ++ d ∷ [])
   row_at k x default within is =
       let less : k < length b.made = omega (arith, within, length_made b.made) in
-      let (d, at, same) = element b.made k x less (is ∙ any_default (map (λ d. d.made) b.made) k default x within) in
-      (
+      let (d, at, same) = element b.made k x less (is ∙ any_default (map (λ d. d.made) b.made) k default x within) in (
         d,
         record {
           sound = sound;
@@ -87,8 +86,7 @@ module _ (b : BookState) (sound : IsSound b) (kept : Each IsKept b.made) where
           apart m h = cc
       by (Some d) here =
           let (k, less, at) = found_place (λ (d : Booked). has_label label d.made) b.made d here in
-          let same : d.made ≡ x = some_same d.made x (sym (find_map (λ (d : Booked). d.made) (has_label label) b.made ∙ ap (option_map (λ (d : Booked). d.made)) here) ∙ is) in
-          (
+          let same : d.made ≡ x = some_same d.made x (sym (find_map (λ (d : Booked). d.made) (has_label label) b.made ∙ ap (option_map (λ (d : Booked). d.made)) here) ∙ is) in (
             d,
             record {
               sound = sound;

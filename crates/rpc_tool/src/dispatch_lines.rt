@@ -63,11 +63,7 @@ fn put_parts(desc: &RpcDesc, parts: &[Part], out: &mut Vec<u8>) -> Result<(), Ou
 }
 
 // The line of an ending, or that there is none yet.
-fn put_last(
-    desc: &RpcDesc,
-    ending: Option<&Ending>,
-    out: &mut Vec<u8>,
-) -> Result<(), OutOfMemory>
+fn put_last(desc: &RpcDesc, ending: Option<&Ending>, out: &mut Vec<u8>) -> Result<(), OutOfMemory>
     requires { IfSome (option_copied ending) (IsEndingOf desc.now) }
     ensures { OnOk result (out.new.items
         ≡ out.old.items ++ last_text desc.now (option_copied ending.entry)) }

@@ -13,7 +13,7 @@ put_last-requires c = let (d, row) = c.requires in ending_of_row c.args.book.now
 pub returns : goal.returns
 returns c = λ d row.
     let head : c.put_head.new.out.items
-        ≡ c.args.out.now.items ++ head_text c.as_slice.result.now c.args.made.now.id c.as_slice-2.result.now c.args.made.now.desc.version
+    ≡ c.args.out.now.items ++ head_text c.as_slice.result.now c.args.made.now.id c.as_slice-2.result.now c.args.made.now.desc.version
     = search (rules, c.in_ok-put_head.ensures.ok) in
     on_ok c.put_last.result
     (λ last. row_written c.args.book.now c.args.made.now d row c.in-Some.field-0 (search (rules, c.in-Some.ensures)) c.args.out.now.items c.put_head.new.out.items
