@@ -1,5 +1,5 @@
 // A book whose dispatches are found by their labels.
-ghost use Rattle.std.specs.Prelude.{◌≡◌, ◌+◌, ◌++◌, find, length, map, take, drop, None, Some, IfOk, IfSome, MatchOption, OnErr, OnOk};
+ghost use Rattle.std.specs.Prelude.{◌≡◌, ◌++◌, find, length, map, take, drop, None, Some, IfOk, IfSome, MatchOption, OnErr, OnOk};
 ghost use Rattle.readers.specs.Reader.{Each};
 ghost use Rattle.rpc_end.specs.Ends.{after_tick, is_closed, out_count, shut, taken_out};
 ghost use Rattle.rpc_end.specs.Taking.{TakesSome};
@@ -10,7 +10,7 @@ ghost use Rattle.rpc_book.specs.Books.{first_book, IsSound, with_connection};
 ghost use Rattle.rpc_book.specs.Calls.{IsAbortedAt, IsBooked};
 ghost use Rattle.rpc_book.specs.Feeds.{IsBookFed};
 ghost use Rattle.rpc_client.specs.Rows.{IsCallable};
-ghost use Rattle.rpc_pair.specs.Kept.{BookKeeps, IsKept, IsOwn};
+ghost use Rattle.rpc_pair.specs.Kept.{IsKept, IsOwn};
 ghost use Rattle.rpc_pair.specs.Made.{dispatches_of, has_label, made_dispatch};
 
 use crate::labels::Labels;
