@@ -57,6 +57,8 @@ pub mod Carrying
 pub mod Readings
 pub mod MappedFinds
 pub mod LabelFinds
+pub mod LabelSets
+pub mod LabelPlaces
 pub mod Keeping
 pub mod Owning
 pub mod Coming

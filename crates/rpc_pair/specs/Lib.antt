@@ -8,6 +8,7 @@ pub mod Moving
 pub mod Feeds
 pub mod Outputs
 pub mod Made
+pub mod Labels
 pub mod Texts
 pub mod Kept
 pub mod Menus

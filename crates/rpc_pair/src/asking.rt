@@ -1,56 +1,58 @@
 // What the client does: it calls and aborts.
-ghost use Rattle.std.specs.Prelude.{IfOk};
+ghost use Rattle.std.specs.Prelude.{◌≡◌, IfOk, None};
 ghost use Rattle.bp_value.specs.Form.{form_of};
 ghost use Rattle.rpc_book.specs.Calls.{IsAbortedAt, IsBooked};
+ghost use Rattle.rpc_meeting.specs.Deeds.{find_label};
 ghost use Rattle.rpc_pair.specs.Callers.{aborted_as, dispatched_as};
 ghost use Rattle.rpc_pair.specs.Pairs.{Answers};
 ghost use Rattle.rpc_pair.specs.Asked.{BookAsks};
 ghost use Rattle.rpc_pair.specs.Kept.{BookKeeps, IsOwn};
+ghost use Rattle.rpc_pair.specs.Made.{dispatches_of};
 
+use crate::labelled::LabelledBook;
 use crate::texts::value_of;
 use bp_value::{Blob, OutOfMemory, Value};
-use rpc_book::Book;
 use rpc_client::{AbortError, DispatchError};
 use rpc_meeting::{Refusal, StepAnswer};
 use rpc_msg::Ticket;
 use rpc_schema::RpcDesc;
 use std::alloc::Global;
 
-/// Calls a procedure with the value that a text is.
+/// Calls a procedure with the value that a text is, under a label that no dispatch has.
 pub fn call_text(
-    book: &mut Book,
+    book: &mut LabelledBook,
     alloc: Global,
     max_message: u64,
     label: &Blob,
     desc: &RpcDesc,
     text: &Blob,
 ) -> Result<StepAnswer, OutOfMemory>
-    requires { IsOwn desc.now }
+    requires own { IsOwn desc.now }
+    requires free { find_label label.now (dispatches_of book.old) ≡ None }
     ensures did { IfOk result (λ answer.
         BookAsks book.old max_message label.now desc.now text.now answer book.new) }
     ensures keeps { BookKeeps book.old book.new }
 {
     match value_of(alloc, &desc.query, text.as_slice(), max_message)? {
-        Some(value) => call(book, alloc, label, desc, &value),
+        Some(value) => call(book, label, desc, &value),
         None => Ok(StepAnswer::Refused(Refusal::BadValue)),
     }
 }
 
-/// Calls a procedure.
+/// Calls a procedure under a label that no dispatch has.
 #[tactic(auto, using(crate::proofs::Keeping::booked_keeps))]
 pub fn call(
-    book: &mut Book,
-    alloc: Global,
+    book: &mut LabelledBook,
     label: &Blob,
     desc: &RpcDesc,
     query: &Value,
 ) -> Result<StepAnswer, OutOfMemory>
-    requires { IsOwn desc.now }
+    requires own { IsOwn desc.now }
+    requires free { find_label label.now (dispatches_of book.old) ≡ None }
     ensures did { IfOk result (λ answer. Answers (IsBooked book.old label.now desc.now query.now)
         dispatched_as answer book.new) }
     ensures keeps { BookKeeps book.old book.new }
 {
-    let label = label.copy(alloc)?;
     match book.dispatch(label, desc, query) {
         Ok(_) => Ok(StepAnswer::Done),
         Err(DispatchError::Closed) => Ok(StepAnswer::Refused(Refusal::Closed)),
@@ -65,7 +67,7 @@ pub fn call(
 
 /// Aborts a dispatch.
 #[tactic(auto, using(crate::proofs::Keeping::aborted_keeps))]
-pub fn abort(book: &mut Book, id: i64) -> Result<StepAnswer, OutOfMemory>
+pub fn abort(book: &mut LabelledBook, id: i64) -> Result<StepAnswer, OutOfMemory>
     ensures did { IfOk result (λ answer.
         Answers (IsAbortedAt book.old id) aborted_as answer book.new) }
     ensures keeps { BookKeeps book.old book.new }

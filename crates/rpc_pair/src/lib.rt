@@ -6,6 +6,8 @@ mod carry;
 mod error;
 mod finding;
 mod generating;
+mod labelled;
+mod labels;
 mod menus;
 mod moved;
 mod pair;

@@ -12,7 +12,7 @@ mod acts;
 
 use crate::carry::carry;
 use crate::error::PairError;
-use crate::finding::under;
+use crate::labelled::LabelledBook;
 use crate::moved::Moved;
 use crate::put::put_out;
 use bp_base::Wire;
@@ -36,7 +36,7 @@ const MAX_PIECE: usize = 65536;
 /// frames came, and neither end is at fault to the other.
 #[derive(Drop)]
 pub struct Pair {
-    book: Book,
+    book: LabelledBook,
     server: Server,
     limits: Limits,
     moment: u64,
@@ -76,7 +76,7 @@ impl Pair {
         ensures { IfOk result (IsNewPair schema limits) }
     {
         Ok(Pair {
-            book: Book::new(alloc, limits, 0)?,
+            book: LabelledBook::new(alloc, limits, 0)?,
             server: Server::new(alloc, schema, limits, 0)?,
             limits,
             moment: 0,
@@ -134,8 +134,8 @@ impl Pair {
         ensures shows { ShowsLabel self.now.book label.now result }
         ensures world { ShowsWorld self.now label.now result }
     {
-        let made = under(&self.book, label)?;
-        self.book.received(&Ticket { id: made.id })
+        let made = self.book.under(label)?;
+        self.book.as_book().received(&Ticket { id: made.id })
     }
 
     /// The dispatch of this label; nothing where none has it. No memory.
@@ -143,7 +143,7 @@ impl Pair {
         ensures made { HasMade self.now.book label.now result }
         ensures sound { IsSound self.now.book }
     {
-        under(&self.book, label)
+        self.book.under(label)
     }
 
     /// The client, with its dispatches. No memory.
@@ -151,7 +151,7 @@ impl Pair {
         ensures book { result.now ≡ self.now.book }
         ensures kept { Each IsKept self.now.book.made }
     {
-        &self.book
+        self.book.as_book()
     }
 
     /// The server. No memory.

@@ -9,7 +9,7 @@ ghost use Rattle.rpc_pair.specs.Feeds.{BookCloses, BookTakes, IsFedAs, ServerClo
 ghost use Rattle.rpc_pair.specs.Kept.{BookKeeps, keeps_along, keeps_same};
 ghost use Rattle.rpc_pair.specs.Outputs.{out_twice};
 
-use rpc_book::Book;
+use crate::labelled::LabelledBook;
 use rpc_msg::FeedError;
 use rpc_server::Server;
 
@@ -106,7 +106,7 @@ impl Party for Server {
     }
 }
 
-impl Party for Book {
+impl Party for LabelledBook {
     ghost closed = { λ b. is_closed b.link };
 
     ghost takes = { BookTakes };
@@ -130,14 +130,14 @@ impl Party for Book {
     ghost both = { λ b n m. ap (with_connection b) (out_twice b.link n m) };
 
     fn is_closed(&self) -> bool {
-        self.cause().is_some()
+        LabelledBook::is_closed(self)
     }
 
     fn feed(&mut self, piece: &[u8], now: u64) -> Result<usize, FeedError> {
-        Book::feed(self, piece, now)
+        LabelledBook::feed(self, piece, now)
     }
 
     fn take_out(&mut self, into: &mut [u8]) -> usize {
-        Book::take_out(self, into)
+        LabelledBook::take_out(self, into)
     }
 }

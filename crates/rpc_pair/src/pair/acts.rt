@@ -1,10 +1,11 @@
 // What events ask for by which nothing moves.
-ghost use Rattle.std.specs.Prelude.{IfOk};
+ghost use Rattle.std.specs.Prelude.{◌≡◌, IfOk, None};
+ghost use Rattle.rpc_meeting.specs.Deeds.{find_label};
 ghost use Rattle.rpc_schedule.specs.declared.event.Event.TheVariants as ev;
 
 use super::Pair;
 use crate::asking::{abort, call, call_text};
-use crate::finding::{called_versions, is_called, line, under};
+use crate::finding::{called_versions, is_called, line};
 use crate::menus::last_menu;
 use crate::telling::{Telling, end, fail, is_stream, is_tracked, tell_text};
 use bp_value::{Blob, OutOfMemory, Value};
@@ -14,6 +15,7 @@ use rpc_schema::{best, menu_desc};
 
 impl Pair {
     ghost use Rattle.rpc_pair.specs.Pairs.{AsksLineOf, Comes, IsDeedAt, IsQuiet};
+    ghost use Rattle.rpc_pair.specs.Made.{dispatches_of};
     ghost use Rattle.rpc_pair.specs.Tellings.{told_event};
 
     /// Does what an event asks for by which nothing moves.
@@ -59,7 +61,7 @@ impl Pair {
             Comes (IsDeedAt self.old (ev.Ask label.now name.now version text.now))
             self.old answer self.new) }
     {
-        if under(&self.book, label.as_slice()).is_some() {
+        if self.book.under(label.as_slice()).is_some() {
             return Ok(StepAnswer::Refused(Refusal::LabelTaken));
         }
         self.ask_line(label, name.as_slice(), version, text)
@@ -73,6 +75,7 @@ impl Pair {
         version: i64,
         text: &Blob,
     ) -> Result<StepAnswer, OutOfMemory>
+        requires { find_label label.now (dispatches_of self.old.book) ≡ None }
         ensures { IfOk result (λ answer.
             Comes (AsksLineOf self.old label.now text.now name.now version)
             self.old answer self.new) }
@@ -94,11 +97,11 @@ impl Pair {
         ensures { IfOk result (λ answer.
             Comes (IsDeedAt self.old (ev.Menu label.now)) self.old answer self.new) }
     {
-        if under(&self.book, label.as_slice()).is_some() {
+        if self.book.under(label.as_slice()).is_some() {
             return Ok(StepAnswer::Refused(Refusal::LabelTaken));
         }
         let desc = menu_desc(self.alloc)?;
-        call(&mut self.book, self.alloc, label, &desc, &Value::Unit)
+        call(&mut self.book, label, &desc, &Value::Unit)
     }
 
     fn ask_best(
@@ -111,10 +114,10 @@ impl Pair {
             Comes (IsDeedAt self.old (ev.Best label.now name.now text.now))
             self.old answer self.new) }
     {
-        if under(&self.book, label.as_slice()).is_some() {
+        if self.book.under(label.as_slice()).is_some() {
             return Ok(StepAnswer::Refused(Refusal::LabelTaken));
         }
-        let Some(menu) = last_menu(self.alloc, &self.book)? else {
+        let Some(menu) = last_menu(self.alloc, self.book.as_book())? else {
             return Ok(StepAnswer::Refused(Refusal::NoMenu));
         };
         let entries = self.server.schema().entries();
@@ -129,7 +132,7 @@ impl Pair {
         ensures { IfOk result (λ answer.
             Comes (IsDeedAt self.old (ev.Abort label.now)) self.old answer self.new) }
     {
-        match under(&self.book, label.as_slice()) {
+        match self.book.under(label.as_slice()) {
             Some(made) => {
                 let id = made.id;
                 abort(&mut self.book, id)
@@ -149,7 +152,7 @@ impl Pair {
             Comes (IsDeedAt self.old (told_event telling label.now text.now))
             self.old answer self.new) }
     {
-        let Some(made) = under(&self.book, label.as_slice()) else {
+        let Some(made) = self.book.under(label.as_slice()) else {
             return Ok(StepAnswer::Refused(Refusal::NoSuchLabel));
         };
         if !telling.is_of(made.desc.kind) {
@@ -170,7 +173,7 @@ impl Pair {
         ensures { IfOk result (λ answer.
             Comes (IsDeedAt self.old (ev.Fail label.now text.now)) self.old answer self.new) }
     {
-        match under(&self.book, label.as_slice()) {
+        match self.book.under(label.as_slice()) {
             Some(made) if is_tracked(made.desc.kind) => fail(&mut self.server, made.id, text),
             Some(_) => Ok(StepAnswer::Refused(Refusal::WrongKind)),
             None => Ok(StepAnswer::Refused(Refusal::NoSuchLabel)),
@@ -181,7 +184,7 @@ impl Pair {
         ensures { IfOk result (λ answer.
             Comes (IsDeedAt self.old (ev.End label.now)) self.old answer self.new) }
     {
-        match under(&self.book, label.as_slice()) {
+        match self.book.under(label.as_slice()) {
             Some(made) if is_stream(made.desc.kind) => end(&mut self.server, made.id),
             Some(_) => Ok(StepAnswer::Refused(Refusal::WrongKind)),
             None => Ok(StepAnswer::Refused(Refusal::NoSuchLabel)),
@@ -191,7 +194,7 @@ impl Pair {
     fn show(&self, label: &Blob) -> StepAnswer
         ensures { Comes (IsDeedAt self.now (ev.Show label.now)) self.now result self.now }
     {
-        match under(&self.book, label.as_slice()) {
+        match self.book.under(label.as_slice()) {
             Some(_) => StepAnswer::Shown,
             None => StepAnswer::Refused(Refusal::NoSuchLabel),
         }

@@ -12,8 +12,8 @@ use Rattle.rpc_pair.proofs.Coming.{line_comes, none_comes, ok_comes, other_comes
 use Rattle.rpc_pair.proofs.Owning.{line_own}
 use Rattle.rpc_pair.proofs.pair.Pair.ask_line.Goals as goal
 
-pub call_text-requires : goal.call_text-requires
-call_text-requires c =
+pub call_text-requires-clause-own : goal.call_text-requires-clause-own
+call_text-requires-clause-own c =
     let entries : AreEntries c.self.inside.server.rules.entries = subst AreEntries c.schema.ensures c.entries.ensures.each in
     let here : line_named c.self.inside.server.rules.entries c.args.name.now c.args.version ≡ Some c.in-Some.entry.now = search rules in
     line_own c.self.inside.server.rules.entries c.args.name.now c.args.version c.in-Some.entry.now entries here
